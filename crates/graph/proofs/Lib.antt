@@ -1,0 +1,3 @@
+pub mod Holding
+mod Adding
+mod Rings

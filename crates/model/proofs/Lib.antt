@@ -1,0 +1,5 @@
+pub mod Checks
+pub mod First
+pub mod Judging
+pub mod Reaching
+pub mod Tallies

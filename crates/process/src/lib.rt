@@ -1,0 +1,5 @@
+//! What a process is made of: nodes, sequence flows and their conditions.
+pub mod draft;
+pub mod flow;
+pub mod node;
+pub mod row;

@@ -1,0 +1,136 @@
+-- What a line that is read looks like.
+use mathlib.Core.Path.{_≡_, refl, sym, ap, subst, _∙_}
+use mathlib.Core.Bool.{Bool, true, false, cond}
+use mathlib.Core.List.{List, [], _∷_}
+use Prim.Native.Nat.{ℕ, _≤_, _<_, _^_}
+use native.Mathlib.Omega.{arith}
+use lib.IntN.{ℤ, pos, negsuc, natAbs}
+use lib.ListN.{length}
+use lib.Signed.{_≤ℤ_}
+use Rattle.std.specs.Options.{mapped, okOr}
+use Rattle.std.specs.Written.{decimal, signed}
+use Rattle.std.specs.declared.option.Option.{Option}
+use Rattle.std.specs.declared.option.Option.the-variants.{Some, None}
+use Rattle.std.specs.declared.result.Result.{Result}
+use Rattle.std.specs.declared.result.Result.the-variants.{Ok, Err}
+use Rattle.std.proofs.shelf.Signed.{ints}
+use Rattle.std.proofs.shelf.Tests.{and-from, le-leb}
+use Rattle.fault.specs.declared.line.LineFault.{LineFault}
+use Rattle.fault.specs.declared.line.LineFault.the-variants.{Form, Number}
+use Rattle.process.specs.Processes.{is-number}
+use Rattle.text.specs.declared.words.Keyword.{Keyword}
+use Rattle.text.specs.declared.words.Keyword.the-variants as keywords
+use Rattle.text.specs.Numbers.{numeral, Names}
+use Rattle.text.specs.Texts.{text-check}
+use Rattle.text.specs.Words.{Token, keyword, number, figure, operator, words-of}
+use Rattle.text.proofs.Numerals.{numeral-names}
+use Rattle.reading.specs.Fields.{and-then, Words, Parsed, field, as-number, counted, number-field}
+use Rattle.reading.specs.Lines.{ended, process-entry, opens-process, as-process, first-line, later-lines, all-lines, in-line, lines-of, process-read}
+
+module _ {X : Type 0} {E : Type 0} where
+  pub err-not-ok : (e : E) (x : X) → _≡_ {A = Result X E} (Err e) (Ok x) → ⊥
+  err-not-ok e x q = let z : _≡_ {A = ℕ} 0 1 = cc in omega arith
+
+  pub ok-same : (x y : X) → _≡_ {A = Result X E} (Ok x) (Ok y) → x ≡ y
+  ok-same x y q = cc
+
+-- both steps went through
+pub and-then-ok : {X Y E : Type 0} (r : Result X E) (next : X → Result Y E) (y : Y) → and-then r next ≡ Ok y → (x : X) × (r ≡ Ok x) × (next x ≡ Ok y)
+and-then-ok (Ok x) next y e = (x, refl, e)
+and-then-ok (Err f) next y e = absurd (err-not-ok f y e)
+
+-- the next word, and what it was read as
+pub field-ok : {X : Type 0} (reads : ℕ → Token → Words → Parsed X) (line : ℕ) (ts : Words) (v : Result X LineFault × Words) → field reads line ts ≡ Ok v → (t : Token) × ((more : Words) × (ts ≡ Some t ∷ more) × (reads line t more ≡ Ok v))
+field-ok reads line [] v e = absurd (err-not-ok (Form line) v e)
+field-ok reads line (None ∷ ts) v e = absurd (err-not-ok (Form line) v e)
+field-ok reads line (Some t ∷ ts) v e = (t, (ts, refl, e))
+
+-- a number field is a number word
+as-number-ok : (line : ℕ) (t : Token) (ts : Words) (v : Result ℕ LineFault × Words) → as-number line t ts ≡ Ok v → (w : List ℕ) × (t ≡ number w) × ((counted line 65535 w, ts) ≡ v)
+as-number-ok line (keyword k) ts v e = absurd (err-not-ok (Form line) v e)
+as-number-ok line (number w) ts v e = (w, refl, ok-same (counted line 65535 w, ts) v e)
+as-number-ok line (figure w) ts v e = absurd (err-not-ok (Form line) v e)
+as-number-ok line (operator o) ts v e = absurd (err-not-ok (Form line) v e)
+
+pub number-ok : (line : ℕ) (ts : Words) (v : Result ℕ LineFault × Words) → number-field line ts ≡ Ok v → (w : List ℕ) × (ts ≡ Some (number w) ∷ v .1) × (counted line 65535 w ≡ v .0)
+number-ok line ts v e =
+    let p = field-ok as-number line ts v e in
+    let q = as-number-ok line (p .0) (p .1 .0) v (p .1 .2) in
+    (q .0, p .1 .1 ∙ (λ i. Some (q .1 i) ∷ q .2 i .1), ap (λ x. x .0) (q .2))
+
+-- a number from 1 on that is read is the writing of the number
+counted-some : (line high : ℕ) (w : List ℕ) (n : ℕ) (r : Option ℤ) → okOr (mapped natAbs r) (Number line) ≡ Ok n → (v : ℤ) × (r ≡ Some v) × (natAbs v ≡ n)
+counted-some line high w n None e = absurd (err-not-ok (Number line) n e)
+counted-some line high w n (Some v) e = (v, refl, ok-same (natAbs v) n e)
+
+-- the word writes n, which lies from 1 to high
+pub record Counts (high : ℕ) (w : List ℕ) (n : ℕ) : Type 0 where
+  pub low : 1 ≤ n
+  pub most : n ≤ high
+  pub same : w ≡ decimal n
+
+counts : (high : ℕ) (w : List ℕ) (n : ℕ) (v : ℤ) → natAbs v ≡ n → Names w (pos 1) (pos high) v → Counts high w n
+counts high w n (pos m) e h = record { low = omega (arith, ints, h .from); most = omega (arith, ints, h .to); same = h .same ∙ ap decimal e }
+counts high w n (negsuc m) e h = absurd (omega (arith, ints, h .from))
+
+pub counted-ok : (line high : ℕ) (w : List ℕ) (n : ℕ) → high < 2 ^ 31 → counted line high w ≡ Ok n → Counts high w n
+counted-ok line high w n few e =
+    let p = counted-some line high w n (numeral (pos 1) (pos high) w) e in
+    counts high w n (p .0) (p .2) (numeral-names (pos 1) (pos high) (omega arith) few w (p .0) (p .1))
+
+opens-ok : (line : ℕ) (k : Keyword) (ts : Words) (n : ℕ) → opens-process line k ts ≡ Ok n → (k ≡ keywords.Process) × (process-entry line ts ≡ Ok n)
+opens-ok line keywords.Process ts n e = (refl, e)
+opens-ok line keywords.Node ts n e = absurd (err-not-ok (Form line) n e)
+opens-ok line keywords.Flow ts n e = absurd (err-not-ok (Form line) n e)
+opens-ok line keywords.Start ts n e = absurd (err-not-ok (Form line) n e)
+opens-ok line keywords.End ts n e = absurd (err-not-ok (Form line) n e)
+opens-ok line keywords.Xor ts n e = absurd (err-not-ok (Form line) n e)
+opens-ok line keywords.And ts n e = absurd (err-not-ok (Form line) n e)
+opens-ok line keywords.Or ts n e = absurd (err-not-ok (Form line) n e)
+opens-ok line keywords.Task ts n e = absurd (err-not-ok (Form line) n e)
+opens-ok line keywords.Default ts n e = absurd (err-not-ok (Form line) n e)
+opens-ok line keywords.If ts n e = absurd (err-not-ok (Form line) n e)
+opens-ok line keywords.Answer ts n e = absurd (err-not-ok (Form line) n e)
+
+as-process-ok : (line : ℕ) (t : Token) (ts : Words) (n : ℕ) → as-process line t ts ≡ Ok n → (t ≡ keyword keywords.Process) × (process-entry line ts ≡ Ok n)
+as-process-ok line (keyword k) ts n e = let p = opens-ok line k ts n e in (ap keyword (p .0), p .1)
+as-process-ok line (number w) ts n e = absurd (err-not-ok (Form line) n e)
+as-process-ok line (figure w) ts n e = absurd (err-not-ok (Form line) n e)
+as-process-ok line (operator o) ts n e = absurd (err-not-ok (Form line) n e)
+
+-- the words of a first line: `process` and a number
+pub record First-words (ts : Words) (n : ℕ) : Type 0 where
+  pub word : List ℕ
+  pub counts : Counts 65535 word n
+  pub all : ts ≡ Some (keyword keywords.Process) ∷ Some (number word) ∷ []
+
+ended-ok : (line : ℕ) (ts : Words) → ended line ts ≡ Ok tt → ts ≡ []
+ended-ok line [] e = refl
+ended-ok line (t ∷ ts) e = absurd (err-not-ok (Form line) tt e)
+
+entry-ok : (line : ℕ) (ts : Words) (n : ℕ) → process-entry line ts ≡ Ok n → First-words (Some (keyword keywords.Process) ∷ ts) n
+entry-ok line ts n e =
+    let p = and-then-ok (number-field line ts) _ n e in
+    let q = number-ok line ts (p .0) (p .1) in
+    let r = and-then-ok (ended line (p .0 .1)) (λ u. p .0 .0) n (p .2) in
+    record {
+      word = q .0;
+      counts = counted-ok line 65535 (q .0) n (omega arith) (q .2 ∙ r .2);
+      all = ap (λ l. Some (keyword keywords.Process) ∷ l) (q .1 ∙ ap (λ l. Some (number (q .0)) ∷ l) (ended-ok line (p .0 .1) (r .1)));
+    }
+
+pub first-ok : (line : ℕ) (ts : Words) (n : ℕ) → first-line line ts ≡ Ok n → First-words ts n
+first-ok line [] n e = absurd (err-not-ok (Form line) n e)
+first-ok line (None ∷ ts) n e = absurd (err-not-ok (Form line) n e)
+first-ok line (Some t ∷ ts) n e =
+    let p = as-process-ok line t ts n e in
+    subst (λ x. First-words (Some x ∷ ts) n) (sym (p .0)) (entry-ok line ts n (p .1))
+
+pub first-number : (line : ℕ) (ts : Words) (n : ℕ) → first-line line ts ≡ Ok n → is-number n ≡ true
+first-number line ts n e = let c = first-ok line ts n e .counts in and-from _ _ (le-leb 1 n (c .low)) (le-leb n 65535 (c .most))
+
+-- a first line at fault
+pub first-bad : (text first : List ℕ) (more : List (List ℕ)) (f : LineFault) → text-check text ≡ Ok tt → lines-of text ≡ first ∷ more → first-line 1 (words-of first) ≡ Err f → process-read text ≡ Err f
+first-bad text first more f a b c =
+    (λ i. and-then (in-line (a i)) (λ u. all-lines (b i)))
+    ∙ ap (λ r. and-then r (λ n. and-then (later-lines 2 ([], []) more) (λ s. Ok (record { number = n; nodes = s .0; flows = s .1 })))) c

@@ -1,0 +1,4 @@
+//! From a text to a model: the words of each line, the lines one after another, and then the process as a whole.
+mod fields;
+pub mod lines;
+pub mod model;
