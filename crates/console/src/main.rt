@@ -1,4 +1,6 @@
 //! Reads `model.txt` in the folder where it is started, and tells the process or why the text is refused.
+ghost use Rattle.console.specs.Loading.{Loaded};
+
 mod files;
 
 use fault::console::ConsoleFault;
@@ -8,8 +10,10 @@ use model::model::Model;
 use reading::model::read_model;
 use std::io;
 
-// The model that a text describes.
-fn load(text: &[u8]) -> Result<Model, ConsoleFault> {
+// The model that a text describes, or why it is refused.
+fn load(text: &[u8]) -> Result<Model, ConsoleFault>
+    ensures { λ r. ⌜ Loaded (now (text .entry)) r ⌝ }
+{
     let mut model = Model::new();
     read_model(&mut model, text)?;
     Ok(model)

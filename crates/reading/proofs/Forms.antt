@@ -5,7 +5,7 @@ use mathlib.Core.List.{List, [], _∷_}
 use Prim.Native.Nat.{ℕ, _≤_, _<_, _^_}
 use native.Mathlib.Omega.{arith}
 use lib.IntN.{ℤ, pos, negsuc, natAbs}
-use lib.ListN.{length}
+use lib.ListN.{length, drop}
 use lib.Signed.{_≤ℤ_}
 use Rattle.std.specs.Options.{mapped, okOr}
 use Rattle.std.specs.Written.{decimal, signed}
@@ -17,6 +17,7 @@ use Rattle.std.proofs.shelf.Signed.{ints}
 use Rattle.std.proofs.shelf.Tests.{and-from, le-leb}
 use Rattle.fault.specs.declared.line.LineFault.{LineFault}
 use Rattle.fault.specs.declared.line.LineFault.the-variants.{Form, Number}
+use Rattle.process.specs.declared.flow.Operator.{Operator}
 use Rattle.process.specs.Processes.{is-number}
 use Rattle.text.specs.declared.words.Keyword.{Keyword}
 use Rattle.text.specs.declared.words.Keyword.the-variants as keywords
@@ -24,7 +25,7 @@ use Rattle.text.specs.Numbers.{numeral, Names}
 use Rattle.text.specs.Texts.{text-check}
 use Rattle.text.specs.Words.{Token, keyword, number, figure, operator, words-of}
 use Rattle.text.proofs.Numerals.{numeral-names}
-use Rattle.reading.specs.Fields.{and-then, Words, Parsed, field, as-number, counted, number-field}
+use Rattle.reading.specs.Fields.{and-then, Words, Parsed, field, as-number, as-figure, as-value, as-operator, counted, valued, number-field, figure-field}
 use Rattle.reading.specs.Lines.{ended, process-entry, opens-process, as-process, first-line, later-lines, all-lines, in-line, lines-of, process-read}
 
 module _ {X : Type 0} {E : Type 0} where
@@ -38,6 +39,15 @@ module _ {X : Type 0} {E : Type 0} where
 pub and-then-ok : {X Y E : Type 0} (r : Result X E) (next : X → Result Y E) (y : Y) → and-then r next ≡ Ok y → (x : X) × (r ≡ Ok x) × (next x ≡ Ok y)
 and-then-ok (Ok x) next y e = (x, refl, e)
 and-then-ok (Err f) next y e = absurd (err-not-ok f y e)
+
+-- a test that was passed, or failed, to go on
+pub cond-first : {X E : Type 0} (b : Bool) (r : Result X E) (e : E) (x : X) → cond b r (Err e) ≡ Ok x → (b ≡ true) × (r ≡ Ok x)
+cond-first true r e x q = (refl, q)
+cond-first false r e x q = absurd (err-not-ok e x q)
+
+pub cond-second : {X E : Type 0} (b : Bool) (r : Result X E) (e : E) (x : X) → cond b (Err e) r ≡ Ok x → (b ≡ false) × (r ≡ Ok x)
+cond-second true r e x q = absurd (err-not-ok e x q)
+cond-second false r e x q = (refl, q)
 
 -- the next word, and what it was read as
 pub field-ok : {X : Type 0} (reads : ℕ → Token → Words → Parsed X) (line : ℕ) (ts : Words) (v : Result X LineFault × Words) → field reads line ts ≡ Ok v → (t : Token) × ((more : Words) × (ts ≡ Some t ∷ more) × (reads line t more ≡ Ok v))
@@ -56,6 +66,45 @@ pub number-ok : (line : ℕ) (ts : Words) (v : Result ℕ LineFault × Words) �
 number-ok line ts v e =
     let p = field-ok as-number line ts v e in
     let q = as-number-ok line (p .0) (p .1 .0) v (p .1 .2) in
+    (q .0, p .1 .1 ∙ (λ i. Some (q .1 i) ∷ q .2 i .1), ap (λ x. x .0) (q .2))
+
+-- a figure field is a figure word
+as-figure-ok : (line : ℕ) (t : Token) (ts : Words) (v : Result ℕ LineFault × Words) → as-figure line t ts ≡ Ok v → (w : List ℕ) × (t ≡ figure w) × ((counted line 16 (drop 1 w), ts) ≡ v)
+as-figure-ok line (keyword k) ts v e = absurd (err-not-ok (Form line) v e)
+as-figure-ok line (number w) ts v e = absurd (err-not-ok (Form line) v e)
+as-figure-ok line (figure w) ts v e = (w, refl, ok-same (counted line 16 (drop 1 w), ts) v e)
+as-figure-ok line (operator o) ts v e = absurd (err-not-ok (Form line) v e)
+
+pub figure-ok : (line : ℕ) (ts : Words) (v : Result ℕ LineFault × Words) → figure-field line ts ≡ Ok v → (w : List ℕ) × (ts ≡ Some (figure w) ∷ v .1) × (counted line 16 (drop 1 w) ≡ v .0)
+figure-ok line ts v e =
+    let p = field-ok as-figure line ts v e in
+    let q = as-figure-ok line (p .0) (p .1 .0) v (p .1 .2) in
+    (q .0, p .1 .1 ∙ (λ i. Some (q .1 i) ∷ q .2 i .1), ap (λ x. x .0) (q .2))
+
+-- a value field is a number word
+as-value-ok : (line : ℕ) (t : Token) (ts : Words) (v : Result ℤ LineFault × Words) → as-value line t ts ≡ Ok v → (w : List ℕ) × (t ≡ number w) × ((valued line w, ts) ≡ v)
+as-value-ok line (keyword k) ts v e = absurd (err-not-ok (Form line) v e)
+as-value-ok line (number w) ts v e = (w, refl, ok-same (valued line w, ts) v e)
+as-value-ok line (figure w) ts v e = absurd (err-not-ok (Form line) v e)
+as-value-ok line (operator o) ts v e = absurd (err-not-ok (Form line) v e)
+
+pub value-ok : (line : ℕ) (ts : Words) (v : Result ℤ LineFault × Words) → field as-value line ts ≡ Ok v → (w : List ℕ) × (ts ≡ Some (number w) ∷ v .1) × (valued line w ≡ v .0)
+value-ok line ts v e =
+    let p = field-ok as-value line ts v e in
+    let q = as-value-ok line (p .0) (p .1 .0) v (p .1 .2) in
+    (q .0, p .1 .1 ∙ (λ i. Some (q .1 i) ∷ q .2 i .1), ap (λ x. x .0) (q .2))
+
+-- an operator field is an operator
+as-operator-ok : (line : ℕ) (t : Token) (ts : Words) (v : Result Operator LineFault × Words) → as-operator line t ts ≡ Ok v → (o : Operator) × (t ≡ operator o) × ((Ok o, ts) ≡ v)
+as-operator-ok line (keyword k) ts v e = absurd (err-not-ok (Form line) v e)
+as-operator-ok line (number w) ts v e = absurd (err-not-ok (Form line) v e)
+as-operator-ok line (figure w) ts v e = absurd (err-not-ok (Form line) v e)
+as-operator-ok line (operator o) ts v e = (o, refl, ok-same (Ok o, ts) v e)
+
+pub operator-ok : (line : ℕ) (ts : Words) (v : Result Operator LineFault × Words) → field as-operator line ts ≡ Ok v → (o : Operator) × (ts ≡ Some (operator o) ∷ v .1) × (Ok o ≡ v .0)
+operator-ok line ts v e =
+    let p = field-ok as-operator line ts v e in
+    let q = as-operator-ok line (p .0) (p .1 .0) v (p .1 .2) in
     (q .0, p .1 .1 ∙ (λ i. Some (q .1 i) ∷ q .2 i .1), ap (λ x. x .0) (q .2))
 
 -- a number from 1 on that is read is the writing of the number
@@ -77,6 +126,14 @@ pub counted-ok : (line high : ℕ) (w : List ℕ) (n : ℕ) → high < 2 ^ 31 �
 counted-ok line high w n few e =
     let p = counted-some line high w n (numeral (pos 1) (pos high) w) e in
     counts high w n (p .0) (p .2) (numeral-names (pos 1) (pos high) (omega arith) few w (p .0) (p .1))
+
+-- a value that is read is the writing of the value
+valued-some : (line : ℕ) (c : ℤ) (r : Option ℤ) → okOr r (Number line) ≡ Ok c → r ≡ Some c
+valued-some line c None e = absurd (err-not-ok (Number line) c e)
+valued-some line c (Some v) e = ap Some (ok-same v c e)
+
+pub valued-ok : (line : ℕ) (w : List ℕ) (c : ℤ) → valued line w ≡ Ok c → w ≡ signed c
+valued-ok line w c e = numeral-names (negsuc 999999999) (pos 1000000000) (omega arith) (omega arith) w c (valued-some line c (numeral (negsuc 999999999) (pos 1000000000) w) e) .same
 
 opens-ok : (line : ℕ) (k : Keyword) (ts : Words) (n : ℕ) → opens-process line k ts ≡ Ok n → (k ≡ keywords.Process) × (process-entry line ts ≡ Ok n)
 opens-ok line keywords.Process ts n e = (refl, e)
@@ -104,7 +161,7 @@ pub record First-words (ts : Words) (n : ℕ) : Type 0 where
   pub counts : Counts 65535 word n
   pub all : ts ≡ Some (keyword keywords.Process) ∷ Some (number word) ∷ []
 
-ended-ok : (line : ℕ) (ts : Words) → ended line ts ≡ Ok tt → ts ≡ []
+pub ended-ok : (line : ℕ) (ts : Words) → ended line ts ≡ Ok tt → ts ≡ []
 ended-ok line [] e = refl
 ended-ok line (t ∷ ts) e = absurd (err-not-ok (Form line) tt e)
 

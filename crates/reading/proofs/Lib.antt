@@ -1,1 +1,12 @@
+pub mod Admitting
+pub mod Allowed
+pub mod Canonical
+pub mod Checked
+pub mod Fine
 pub mod Forms
+pub mod Framed
+pub mod Later
+pub mod Rebuilt
+pub mod Rereads
+pub mod Stands
+pub mod Steps

@@ -10,11 +10,12 @@ use Rattle.fault.specs.declared.model.ModelFault.{ModelFault}
 use Rattle.fault.specs.declared.model.ModelFault.the-variants.{Line}
 use Rattle.model.specs.declared.model.Model.{Model}
 use Rattle.model.specs.Models.{draft-of}
-use Rattle.model.specs.Sound.{Unsound}
+use Rattle.model.specs.Sound.{Sound, Unsound}
 use Rattle.process.specs.declared.draft.Draft.{Draft}
 use Rattle.process.specs.Drafts.{number-of, nodes-of, flows-of}
 use Rattle.reading.specs.Fields.{Words}
 use Rattle.reading.specs.Lines.{Process, Sofar, node-line, flow-line, later-line, later-lines, process-read}
+use Rattle.reading.specs.Writings.{Describes, Describes-nothing}
 
 -- the process that a draft holds
 abbrev pub process-of : Draft → Process
@@ -48,13 +49,27 @@ abbrev pub DraftRead : List ℕ → Result Draft LineFault → Type 0
 DraftRead text (Ok d) = process-read text ≡ Ok (process-of d)
 DraftRead text (Err fault) = process-read text ≡ Err fault
 
+-- the text is accepted exactly if it is the writing of a process
+abbrev pub DraftWritten : List ℕ → Result Draft LineFault → Type 0
+DraftWritten text (Ok d) = Describes text (process-of d)
+DraftWritten text (Err fault) = Describes-nothing text
+
 -- why a text is no model: a fault of the text or of a line, or else the first rule that its process breaks
 abbrev pub Refused : List ℕ → ModelFault → Type 0
 Refused text fault =
     ((f : LineFault) × (fault ≡ Line f) × (process-read text ≡ Err f))
     ⊎ ((p : Process) × (process-read text ≡ Ok p) × Unsound (p .nodes) (p .flows) fault)
 
--- the place holds the model that the text describes, or the text is refused and the place is as it was
+-- the place holds the process that is read from the text, or the text is refused and the place is as it was
+abbrev pub ModelFilled : List ℕ → Model → Result (Unit {0}) ModelFault → Model → Type 0
+ModelFilled text old (Ok u) new = process-read text ≡ Ok (process-of (draft-of new))
+ModelFilled text old (Err fault) new = Refused text fault × (new ≡ old)
+
+-- the same by what the text describes
 abbrev pub ModelRead : List ℕ → Model → Result (Unit {0}) ModelFault → Model → Type 0
-ModelRead text old (Ok u) new = process-read text ≡ Ok (process-of (draft-of new))
+ModelRead text old (Ok u) new = Describes text (process-of (draft-of new))
 ModelRead text old (Err fault) new = Refused text fault × (new ≡ old)
+
+-- the text is the writing of a sound process
+abbrev pub Admitted : List ℕ → Type 0
+Admitted text = (p : Process) × Describes text p × Sound (p .nodes) (p .flows)

@@ -70,6 +70,12 @@ pub record Formed (p : Process) : Type 0 where
   pub few-nodes : length (p .nodes) ≤ 40
   pub few-flows : length (p .flows) ≤ 64
 
--- a text describes a process exactly if it is the writing of the process
-abbrev pub Is-writing : List ℕ → Process → Type 0
-Is-writing text p = (text ≡ written p) × Formed p
+-- the text is the writing of p and of no other process
+pub record Describes (text : List ℕ) (p : Process) : Type 0 where
+  pub writing : text ≡ written p
+  pub formed : Formed p
+  pub only : (q : Process) → Formed q → text ≡ written q → q ≡ p
+
+-- the text is the writing of no process
+abbrev pub Describes-nothing : List ℕ → Type 0
+Describes-nothing text = (p : Process) → Formed p → text ≡ written p → ⊥

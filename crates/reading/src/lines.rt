@@ -4,7 +4,7 @@ ghost use Prim.Native.Nat.{_≤_};
 ghost use Rattle.text.specs.Pieces.{pieces-in, length-left};
 ghost use Rattle.text.specs.Words.{words-left};
 ghost use Rattle.reading.specs.Lines.{ended, process-entry, first-line};
-ghost use Rattle.reading.specs.Readings.{NodeRead, FlowRead, LineRead, LinesRead, DraftRead};
+ghost use Rattle.reading.specs.Readings.{NodeRead, FlowRead, LineRead, LinesRead, DraftRead, DraftWritten};
 use crate::fields::guard_field;
 use crate::fields::kind_field;
 use crate::fields::number_field;
@@ -104,8 +104,8 @@ fn later_lines(draft: &mut Draft, lines: Option<&[u8]>) -> Result<(), LineFault>
     Ok(())
 }
 
-/// The process that the text describes.
-pub fn read_process(text: &[u8]) -> Result<Draft, LineFault>
+// The text as a whole, its first line, and then the others.
+fn read_lines(text: &[u8]) -> Result<Draft, LineFault>
     ensures { λ r. ⌜ DraftRead (now (text .entry)) r ⌝ }
 {
     check_text(text)?;
@@ -114,4 +114,12 @@ pub fn read_process(text: &[u8]) -> Result<Draft, LineFault>
     let mut draft = Draft::new(1, number)?;
     later_lines(&mut draft, cut.rest)?;
     Ok(draft)
+}
+
+/// The process that the text describes. Refused exactly if the text is the writing of no process.
+pub fn read_process(text: &[u8]) -> Result<Draft, LineFault>
+    ensures read { λ r. ⌜ DraftRead (now (text .entry)) r ⌝ }
+    ensures writing { λ r. ⌜ DraftWritten (now (text .entry)) r ⌝ }
+{
+    read_lines(text)
 }

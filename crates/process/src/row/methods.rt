@@ -22,7 +22,7 @@ impl<T: Copy, const N: usize> Row<T, N> {
     pub fn len(&self) -> usize
         ensures { λ r. ⌜ r ≡ length (items (now (self .entry))) ⌝ }
     {
-        self.count
+        self.as_slice().len()
     }
 
     /// The items.
