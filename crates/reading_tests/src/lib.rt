@@ -1,45 +1,44 @@
 //! Examples of model texts: accepted ones, and each fault with its place.
-use model::model::Model;
-use reading::model::read_model;
-
-/// A text, and the number, layer and place of the fault with which it is refused; all 0 where it is accepted.
-#[derive(Clone, Copy)]
-pub struct Case<'a> {
-    pub text: &'a [u8],
-    pub fault: (u8, u8, usize),
-}
-
-/// The number, layer and place of the fault of a text, or zeros.
-pub fn verdict(text: &[u8]) -> (u8, u8, usize) {
-    let mut place = Model::new();
-    match read_model(&mut place, text) {
-        Ok(()) => (0, 0, 0),
-        Err(fault) => {
-            let record = fault.record();
-            (record.number, record.layer, record.place)
-        }
-    }
-}
-
-/// The first case, from 1, whose text has another verdict, or 0.
-pub fn first_wrong(cases: &[Case<'_>]) -> usize {
-    for (i, case) in cases.iter().enumerate() {
-        if verdict(case.text) != case.fault {
-            return i + 1;
-        }
-    }
-    0
-}
 
 #[cfg(test)]
 mod tests {
-    use super::*;
+    use model::model::Model;
     use process::node::Kind;
     use process::node::KindDebug;
     use process::node::KindPartialEq;
+    use reading::model::read_model;
     use std::alloc::AllocError;
     use std::alloc::Global;
     use std::test::*;
+
+    // A text, and the number, layer and place of the fault with which it is refused; all 0 where it is accepted.
+    #[derive(Clone, Copy)]
+    struct Case<'a> {
+        text: &'a [u8],
+        fault: (u8, u8, usize),
+    }
+
+    // The number, layer and place of the fault of a text, or zeros.
+    fn verdict(text: &[u8]) -> (u8, u8, usize) {
+        let mut place = Model::new();
+        match read_model(&mut place, text) {
+            Ok(()) => (0, 0, 0),
+            Err(fault) => {
+                let record = fault.record();
+                (record.number, record.layer, record.place)
+            }
+        }
+    }
+
+    // The first case, from 1, whose text has another verdict, or 0.
+    fn first_wrong(cases: &[Case<'_>]) -> usize {
+        for (i, case) in cases.iter().enumerate() {
+            if verdict(case.text) != case.fault {
+                return i + 1;
+            }
+        }
+        0
+    }
 
     #[test]
     fn accepted() -> Result<(), Fail> {
