@@ -10,20 +10,20 @@ use lib.Dec.{eqb, leb}
 use lib.ListN.{length}
 use Rattle.std.specs.declared.result.Result.{Result}
 use Rattle.std.specs.declared.result.Result.the-variants.{Ok, Err}
-use Rattle.std.proofs.shelf.Tests.{cases-bool, and-parts, and-from, eqb-true, leb-true, eq-eqb, le-leb, cond-true, cond-false}
+use Rattle.std.proofs.shelf.Tests.{and-parts, and-from, eqb-true, leb-true, eq-eqb, le-leb, cond-true, cases-order}
 use Rattle.fault.specs.declared.model.ModelFault.{ModelFault}
-use Rattle.fault.specs.declared.model.ModelFault.the-variants.{StartsAndEnds, FlowCount, SelfLoop, Guard, SecondDefault}
+use Rattle.fault.specs.declared.model.ModelFault.the-variants.{StartsAndEnds, FlowCount, SelfLoop, Guard, SecondDefault, NotReached}
 use Rattle.process.specs.declared.flow.Flow.{Flow}
 use Rattle.process.specs.declared.node.Kind.{Kind}
 use Rattle.model.specs.Rules.{how-many, is-start, is-end, ends-right, count-rule, loop-rule, guard-rule, default-rule, checked, next-checked, then, rules-check}
-use Rattle.model.specs.Sound.{start-of, Can-be-reached, Sound, Unsound}
+use Rattle.model.specs.Sound.{start-of, Can-be-reached, Sound, First-unreached, Unsound, The-fault}
 use Rattle.model.proofs.Checks.{checked-all}
-
-Verdict : Type 0
-Verdict = Result (Unit {0}) ModelFault
 
 pub ok-not-err : (f : ModelFault) → _≡_ {A = Result (Unit {0}) ModelFault} (Ok tt) (Err f) → ⊥
 ok-not-err f q = let z : _≡_ {A = ℕ} 0 1 = cc in omega arith
+
+same-err : (f g : ModelFault) → _≡_ {A = Result (Unit {0}) ModelFault} (Err f) (Err g) → f ≡ g
+same-err f g q = cc
 
 then-parts : (a b : Result (Unit {0}) ModelFault) → then a b ≡ Ok tt → (a ≡ Ok tt) × (b ≡ Ok tt)
 then-parts (Ok tt) b e = (refl, e)
@@ -90,3 +90,23 @@ module _ (nodes : List Kind) (flows : List Flow) where
       (λ e. ok-not-err f (sym (sound-rules s) ∙ e))
       (λ p. let first = p .1 .2 in first .missed (s .reached (p .1 .0) (first .low) (first .high)))
       u)
+
+  -- the lowest node that cannot be reached is one
+  same-unreached : (m n : ℕ) → First-unreached nodes flows m → First-unreached nodes flows n → m ≡ n
+  same-unreached m n a b =
+      ⊎-elim (λ e. e)
+      (⊎-elim (λ lt. absurd (a .missed (b .lower m (a .low) lt))) (λ gt. absurd (b .missed (a .lower n (b .low) gt))))
+      (cases-order m n)
+
+  -- a process has one fault
+  pub the-fault : (f : ModelFault) → Unsound nodes flows f → The-fault nodes flows f
+  the-fault f u = record {
+    broken = u;
+    only = λ g v. ⊎-elim
+        (λ e. ⊎-elim (λ d. same-err g f (sym d ∙ e)) (λ q. absurd (ok-not-err f (sym (q .0) ∙ e))) v)
+        (λ p. ⊎-elim
+        (λ d. absurd (ok-not-err g (sym (p .0) ∙ d)))
+        (λ q. q .1 .1 ∙ ap NotReached (same-unreached (q .1 .0) (p .1 .0) (q .1 .2) (p .1 .2)) ∙ sym (p .1 .1))
+        v)
+        u;
+  }

@@ -55,6 +55,11 @@ Reached-verdict nodes flows (Err fault) = (n : ℕ) × (fault ≡ NotReached n) 
 abbrev pub Unsound : List Kind → List Flow → ModelFault → Type 0
 Unsound nodes flows fault = (rules-check nodes flows ≡ Err fault) ⊎ ((rules-check nodes flows ≡ Ok tt) × Reached-verdict nodes flows (Err fault))
 
+-- the fault, and no other
+pub record The-fault (nodes : List Kind) (flows : List Flow) (fault : ModelFault) : Type 0 where
+  pub broken : Unsound nodes flows fault
+  pub only : (other : ModelFault) → Unsound nodes flows other → other ≡ fault
+
 abbrev pub member : List ℕ → ℕ → Bool
 member [] n = false
 member (x ∷ xs) n = eqb x n || member xs n

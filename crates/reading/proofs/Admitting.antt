@@ -10,19 +10,43 @@ use Rattle.std.specs.Results.{isOk}
 use Rattle.std.specs.declared.result.Result.{Result}
 use Rattle.std.specs.declared.result.Result.the-variants.{Ok, Err}
 use Rattle.std.proofs.shelf.Tests.{false≢true}
+use Rattle.fault.specs.declared.line.LineFault.{LineFault}
 use Rattle.fault.specs.declared.model.ModelFault.{ModelFault}
+use Rattle.fault.specs.declared.model.ModelFault.the-variants.{Line}
 use Rattle.model.specs.declared.model.Model.{Model}
 use Rattle.model.specs.Models.{draft-of}
-use Rattle.model.specs.Sound.{Sound}
-use Rattle.model.proofs.Judging.{unsound-not}
+use Rattle.model.specs.Sound.{Sound, Unsound}
+use Rattle.model.proofs.Judging.{unsound-not, the-fault}
 use Rattle.reading.specs.Lines.{Process, process-read}
-use Rattle.reading.specs.Readings.{process-of, Refused, ModelFilled, ModelRead, Admitted}
+use Rattle.reading.specs.Readings.{process-of, Refused, The-fault-of, ModelFilled, ModelRead, Admitted}
 use Rattle.reading.specs.Writings.{Describes}
 use Rattle.reading.proofs.Canonical.{describes, describes-nothing}
+use Rattle.reading.proofs.Forms.{err-not-ok, ok-same}
+
+-- a text has one fault
+the-fault-of : (text : List ℕ) (fault : ModelFault) → Refused text fault → The-fault-of text fault
+the-fault-of text fault r = record {
+  refused = r;
+  only = λ other q. ⊎-elim
+      (λ line. ⊎-elim
+      (λ also. also .1 ∙ ap Line (same-err (also .0) (line .0) (sym (also .2) ∙ line .2)) ∙ sym (line .1))
+      (λ sound. absurd (err-not-ok (line .0) (sound .0) (sym (line .2) ∙ sound .1)))
+      q)
+      (λ unsound. ⊎-elim
+      (λ line. absurd (err-not-ok (line .0) (unsound .0) (sym (line .2) ∙ unsound .1)))
+      (λ also.
+      let same = ok-same (also .0) (unsound .0) (sym (also .1) ∙ unsound .1) in
+      the-fault (unsound .0 .nodes) (unsound .0 .flows) fault (unsound .2) .only other (subst (λ (p : Process). Unsound (p .nodes) (p .flows) other) same (also .2)))
+      q)
+      r;
+}
+  where
+    same-err : (f g : LineFault) → _≡_ {A = Result Process LineFault} (Err f) (Err g) → f ≡ g
+    same-err f g e = cc
 
 pub model-read : (text : List ℕ) (old new : Model) (r : Result (Unit {0}) ModelFault) → ModelFilled text old r new → ModelRead text old r new
 model-read text old new (Ok u) e = describes text (process-of (draft-of new)) e
-model-read text old new (Err fault) e = e
+model-read text old new (Err fault) e = (the-fault-of text fault (e .0), e .1)
 
 -- the process of a refused text is not sound
 refused-not : (text : List ℕ) (fault : ModelFault) → Refused text fault → Admitted text → ⊥

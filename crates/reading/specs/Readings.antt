@@ -60,6 +60,11 @@ Refused text fault =
     ((f : LineFault) × (fault ≡ Line f) × (process-read text ≡ Err f))
     ⊎ ((p : Process) × (process-read text ≡ Ok p) × Unsound (p .nodes) (p .flows) fault)
 
+-- the fault of a text, and no other
+pub record The-fault-of (text : List ℕ) (fault : ModelFault) : Type 0 where
+  pub refused : Refused text fault
+  pub only : (other : ModelFault) → Refused text other → other ≡ fault
+
 -- the place holds the process that is read from the text, or the text is refused and the place is as it was
 abbrev pub ModelFilled : List ℕ → Model → Result (Unit {0}) ModelFault → Model → Type 0
 ModelFilled text old (Ok u) new = process-read text ≡ Ok (process-of (draft-of new))
@@ -68,7 +73,7 @@ ModelFilled text old (Err fault) new = Refused text fault × (new ≡ old)
 -- the same by what the text describes
 abbrev pub ModelRead : List ℕ → Model → Result (Unit {0}) ModelFault → Model → Type 0
 ModelRead text old (Ok u) new = Describes text (process-of (draft-of new))
-ModelRead text old (Err fault) new = Refused text fault × (new ≡ old)
+ModelRead text old (Err fault) new = The-fault-of text fault × (new ≡ old)
 
 -- the text is the writing of a sound process
 abbrev pub Admitted : List ℕ → Type 0

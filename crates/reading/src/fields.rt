@@ -16,7 +16,7 @@ use text::words::Word;
 
 /// What a line says at one place, and what is left of the line after it. A number that is badly written or out of its
 /// range is kept as a fault: it counts only once the whole line has a form.
-#[derive(Clone, Copy)]
+#[derive(Drop)]
 pub(crate) struct Field<'a, T> {
     pub(crate) value: Result<T, LineFault>,
     pub(crate) rest: Rest<'a>,

@@ -5,7 +5,7 @@ ghost use Rattle.std.specs.Orderings.{Decides};
 ghost use Rattle.std.specs.Results.{Cases, isOk};
 ghost use Rattle.process.specs.Drafts as drafts;
 ghost use Rattle.model.specs.Models.{draft-of, number-of, nodes-of, flows-of, first-nodes, first-flows};
-ghost use Rattle.model.specs.Sound.{Sound, Unsound};
+ghost use Rattle.model.specs.Sound.{Sound, The-fault};
 use super::Model;
 use crate::reached::check_reached;
 use crate::rules::check_rules;
@@ -36,7 +36,7 @@ impl Model {
 
     /// The model of a process. Refused exactly if the process is not sound.
     pub fn check(process: Draft) -> Result<Model, ModelFault>
-        ensures cases { λ r. ⌜ Cases r (λ m. draft-of m ≡ process) (Unsound (drafts.nodes-of process) (drafts.flows-of process)) ⌝ }
+        ensures cases { λ r. ⌜ Cases r (λ m. draft-of m ≡ process) (The-fault (drafts.nodes-of process) (drafts.flows-of process)) ⌝ }
         ensures exact { λ r. ⌜ Decides (isOk r) (∥ Sound (drafts.nodes-of process) (drafts.flows-of process) ∥₁) ⌝ }
     {
         check_rules(process.nodes(), process.flows())?;

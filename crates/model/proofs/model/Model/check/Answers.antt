@@ -6,7 +6,7 @@ use Rattle.std.proofs.shelf.Tests.{false≢true}
 use Rattle.process.specs.Drafts.{nodes-of, flows-of}
 use Rattle.model.specs.Rules.{rules-check}
 use Rattle.model.specs.Sound.{Unsound}
-use Rattle.model.proofs.Judging.{rules-start, sound-made, unsound-not}
+use Rattle.model.proofs.Judging.{rules-start, sound-made, unsound-not, the-fault}
 use Rattle.model.proofs.model.Model.check.Needs as need
 
 pub returns-in-Break-check-rules : need.returns-in-Break-check-rules
@@ -16,7 +16,7 @@ returns-in-Break-check-rules c =
     let told : rules-check (nodes-of d) (flows-of d) ≡ Err (c .in-Break-check-rules .field-0 .0) =
     (λ i. rules-check (sym (c .nodes .ensures .value) i) (sym (c .flows .ensures .value) i)) ∙ sym (c .in-Break-check-rules .ensures tt) in
     let bad : Unsound (nodes-of d) (flows-of d) (c .in-Break-check-rules .field-0 .0) = inl told in
-    rw (p .1, p .2) (record { cases = bad; exact = (λ e. absurd (false≢true e), λ s. absurd (unsound-not (nodes-of d) (flows-of d) _ bad s)) })
+    rw (p .1, p .2) (record { cases = the-fault (nodes-of d) (flows-of d) _ bad; exact = (λ e. absurd (false≢true e), λ s. absurd (unsound-not (nodes-of d) (flows-of d) _ bad s)) })
 
 pub check-reached-requires : need.check-reached-requires
 check-reached-requires c κs =
@@ -31,7 +31,7 @@ returns-in-Break-check-reached c =
     let told : rules-check (nodes-of d) (flows-of d) ≡ Ok tt =
     (λ i. rules-check (sym (c .nodes .ensures .value) i) (sym (c .flows .ensures .value) i)) ∙ sym (c .in-Continue-check-rules .ensures tt) in
     let bad : Unsound (nodes-of d) (flows-of d) (c .in-Break-check-reached .field-0 .0) = inr (told, c .in-Break-check-reached .ensures tt) in
-    rw (p .1, p .2) (record { cases = bad; exact = (λ e. absurd (false≢true e), λ s. absurd (unsound-not (nodes-of d) (flows-of d) _ bad s)) })
+    rw (p .1, p .2) (record { cases = the-fault (nodes-of d) (flows-of d) _ bad; exact = (λ e. absurd (false≢true e), λ s. absurd (unsound-not (nodes-of d) (flows-of d) _ bad s)) })
 
 pub ghost-result : need.ghost-result
 ghost-result c =
