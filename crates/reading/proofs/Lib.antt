@@ -1,5 +1,6 @@
 pub mod Admitting
 pub mod Allowed
+pub mod Answering
 pub mod Canonical
 pub mod Checked
 pub mod Fine
@@ -8,5 +9,6 @@ pub mod Framed
 pub mod Later
 pub mod Rebuilt
 pub mod Rereads
+pub mod Room
 pub mod Stands
 pub mod Steps
