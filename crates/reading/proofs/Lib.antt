@@ -3,10 +3,12 @@ pub mod Allowed
 pub mod Answering
 pub mod Canonical
 pub mod Checked
+pub mod Describing
 pub mod Fine
 pub mod Forms
 pub mod Framed
 pub mod Later
+pub mod Orders
 pub mod Rebuilt
 pub mod Rereads
 pub mod Room

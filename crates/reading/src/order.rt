@@ -68,12 +68,20 @@ fn order_lines(lines: &mut Row<OrderLine, MOST_LINES>, text: &[u8]) -> Result<()
     Ok(())
 }
 
-/// The lines of the order text. Refused exactly if the text is the writing of no such lines.
-pub fn read_order(text: &[u8]) -> Result<Row<OrderLine, MOST_LINES>, LineFault>
+// The text as a whole, and then its lines.
+fn read_lines(text: &[u8]) -> Result<Row<OrderLine, MOST_LINES>, LineFault>
     ensures { λ r. ⌜ OrderRead (now (text .entry)) r ⌝ }
 {
     check_text(text)?;
     let mut lines = Row::new(OrderLine { node: 0, value: 0 });
     order_lines(&mut lines, &text[0..text.len() - 1])?;
     Ok(lines)
+}
+
+/// The lines of the order text. Refused exactly if the text is the writing of no such lines.
+pub fn read_order(text: &[u8]) -> Result<Row<OrderLine, MOST_LINES>, LineFault>
+    ensures read { λ r. ⌜ OrderRead (now (text .entry)) r ⌝ }
+    ensures writing { λ r. ⌜ OrderWritten (now (text .entry)) r ⌝ }
+{
+    read_lines(text)
 }
