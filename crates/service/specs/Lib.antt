@@ -1,5 +1,6 @@
 pub mod Answers
 pub mod Entries
+pub mod OrderFiles
 pub mod Piles
 pub mod Trays
 pub mod Waits
