@@ -1,11 +1,10 @@
 -- An order text is the writing of its lines, and of no others.
-use mathlib.Core.Path.{_≡_, refl, sym, ap, subst, _∙_}
+use mathlib.Core.Path.{_≡_, refl, sym, ap, _∙_}
 use mathlib.Core.Bool.{true}
 use mathlib.Core.List.{List, [], _∷_, _++_, map, append-nil, append-assoc}
 use Prim.Native.Nat.{ℕ, _+_, _-_, _<_, _≤_}
 use native.Mathlib.Omega.{arith}
 use lib.Dec.{leb}
-use lib.IntN.{ℤ}
 use lib.ListN.{length, take}
 use Rattle.std.specs.Written.{decimal, signed}
 use Rattle.std.specs.declared.result.Result.{Result}
@@ -17,7 +16,7 @@ use Rattle.process.specs.Processes.{is-node-number, is-value}
 use Rattle.process.specs.declared.row.Row.{Row}
 use Rattle.process.specs.Rows.{items}
 use Rattle.text.specs.declared.words.Keyword.the-variants as keywords
-use Rattle.text.specs.Pieces.{pieces, joined}
+use Rattle.text.specs.Pieces.{joined}
 use Rattle.text.specs.Texts.{text-check}
 use Rattle.text.specs.Words.{word-of, words-of}
 use Rattle.text.proofs.Joins.{weight, weight-pieces}
@@ -25,8 +24,8 @@ use Rattle.text.proofs.Tokens.{word-spelling}
 use Rattle.reading.specs.declared.order.OrderLine.{OrderLine}
 use Rattle.reading.specs.Fields.{counted-field, field, as-value}
 use Rattle.reading.specs.Lines.{in-line, lines-of}
-use Rattle.reading.specs.Orders.{order-entry, order-line, order-lines, order-read, order-words, order-written, order-in-range, orders-in-range, Order-formed, OrderRead, OrderWritten}
-use Rattle.reading.specs.Writings.{text-of, Describes-as, Describes-none}
+use Rattle.reading.specs.Orders.{order-line, order-lines, order-read, order-words, order-written, order-in-range, orders-in-range, Order-formed, OrderRead, OrderWritten}
+use Rattle.reading.specs.Writings.{text-of}
 use Rattle.reading.proofs.Answering.{order-step}
 use Rattle.reading.proofs.Checked.{line-words, writing-checked, writing-lines}
 use Rattle.reading.proofs.Describing.{describes-as, describes-none}

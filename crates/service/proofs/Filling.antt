@@ -1,7 +1,7 @@
 -- A pile that is filled with the lines of an order text.
 use mathlib.Core.Path.{_≡_, refl, sym, ap, subst, _∙_}
 use mathlib.Core.Bool.{true}
-use mathlib.Core.List.{List, [], _∷_, _++_, map}
+use mathlib.Core.List.{List, [], _∷_, map}
 use Prim.Native.Nat.{ℕ, zero, suc, _+_, _<_, _≤_}
 use native.Mathlib.Omega.{arith}
 use lib.ListN.{length, getD, take}
@@ -17,8 +17,8 @@ use Rattle.service.specs.declared.pile.Pile.{Pile}
 use Rattle.service.specs.Answers.{answer}
 use Rattle.service.specs.Entries.{answers-for, all-sound}
 use Rattle.service.specs.OrderFiles.{ordered, order-waits}
-use Rattle.service.specs.Piles.{waits-in, put-verdict, Put}
-use Rattle.service.specs.Waits.{added, waiting-in-all}
+use Rattle.service.specs.Piles.{waits-in}
+use Rattle.service.specs.Waits.{added, waiting-in-all, put-verdict, Put}
 use Rattle.service.proofs.Entries.{answers-push, waiting-entries}
 use Rattle.service.proofs.Verdicts.{verdict-room}
 
@@ -35,8 +35,8 @@ range-at (o ∷ os) (suc i) d within h = range-at os i d (omega arith) (and-part
 -- one line more finds room
 module _ (os : List OrderLine) (range : orders-in-range os ≡ true) (few : length os ≤ 1489) (i : ℕ) (d : OrderLine) (within : i < length os) (p p′ : Pile 1489) (r : Result (Unit {0}) ServiceFault) where
   pub filled-more : waits-in p ≡ order-waits (take i os)
-      → r ≡ put-verdict 1489 (waiting-in-all (waits-in p)) (getD os i d .node) (answer (getD os i d .value))
-      → Put p (getD os i d .node) (answer (getD os i d .value)) r p′
+      → r ≡ put-verdict 1489 (waits-in p) (getD os i d .node) (answer (getD os i d .value))
+      → Put waits-in p (getD os i d .node) (answer (getD os i d .value)) r p′
       → waits-in p′ ≡ order-waits (take (i + 1) os)
   filled-more before reply put =
       let o = getD os i d in
@@ -44,8 +44,8 @@ module _ (os : List OrderLine) (range : orders-in-range os ≡ true) (few : leng
       let good = and-parts (is-node-number (o .node)) (is-value (o .value)) (range-at os i d within range) in
       let total : waiting-in-all (waits-in p) ≡ length es = ap waiting-in-all before ∙ waiting-entries es (sound-front os i range) in
       let many : length es ≡ i = length-map (take i os) ordered ∙ length-take-le i os (omega arith) in
-      let ok : r ≡ Ok tt = reply ∙ sym (verdict-room 1489 (waiting-in-all (waits-in p)) (o .node) (answer (o .value)) (sym (good .0)) (sym (good .1)) (omega arith)) in
-      subst (λ x. Put p (o .node) (answer (o .value)) x p′) ok put
+      let ok : r ≡ Ok tt = reply ∙ sym (verdict-room 1489 (waits-in p) (o .node) (answer (o .value)) (sym (good .0)) (sym (good .1)) (omega arith)) in
+      subst (λ x. Put waits-in p (o .node) (answer (o .value)) x p′) ok put
       ∙ ap (λ w. added w (o .node) (answer (o .value))) before
       ∙ sym (answers-push es (o .node) (answer (o .value)))
       ∙ ap answers-for (sym (map-more ordered os i d within))

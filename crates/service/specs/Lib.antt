@@ -2,5 +2,4 @@ pub mod Answers
 pub mod Entries
 pub mod OrderFiles
 pub mod Piles
-pub mod Trays
 pub mod Waits

@@ -3,9 +3,8 @@ ghost use mathlib.Core.Path.{_≡_};
 ghost use mathlib.Core.List.{[]};
 ghost use Prim.Native.Nat.{ℕ, _≤_};
 ghost use Rattle.service.specs.Answers.{answer};
-ghost use Rattle.service.specs.Piles.{put-verdict};
-ghost use Rattle.service.specs.Trays.{waits-on, Put};
-ghost use Rattle.service.specs.Waits.{waiting-in-all};
+ghost use Rattle.service.specs.Piles.{waits-on};
+ghost use Rattle.service.specs.Waits.{waiting-in-all, put-verdict, Put};
 use crate::answer::Answer;
 use crate::pile::Pile;
 use crate::service::Service;
@@ -31,8 +30,8 @@ impl Tray {
     /// Puts an answer behind those that wait for the node. Refused if no node can have the number, else if no figure
     /// can have the value, else if 64 answers wait over all nodes; refused, it changes nothing.
     pub fn put(&mut self, node: u16, value: i32) -> Result<(), ServiceFault>
-        ensures reply { λ r. ⌜ r ≡ put-verdict 64 (waiting-in-all (waits-on (now (self .entry)))) node (answer value) ⌝ }
-        ensures after { λ r. ⌜ Put (now (self .entry)) node (answer value) r (now (self .exit)) ⌝ }
+        ensures reply { λ r. ⌜ r ≡ put-verdict 64 (waits-on (now (self .entry))) node (answer value) ⌝ }
+        ensures after { λ r. ⌜ Put waits-on (now (self .entry)) node (answer value) r (now (self .exit)) ⌝ }
         ensures few { λ _. ⌜ waiting-in-all (waits-on (now (self .exit))) ≤ 64 ⌝ }
     {
         self.pile.put(node, Answer { value })

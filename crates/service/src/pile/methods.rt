@@ -1,11 +1,11 @@
 ghost use mathlib.Core.Path.{_≡_};
 ghost use mathlib.Core.Bool.{cond};
 ghost use mathlib.Core.List.{[]};
-ghost use Prim.Native.Nat.{ℕ, _≤_};
+ghost use Prim.Native.Nat.{ℕ};
 ghost use lib.ListN.{length};
 ghost use Rattle.std.specs.Results.{isOk};
-ghost use Rattle.service.specs.Piles.{waits-in, put-verdict, Put};
-ghost use Rattle.service.specs.Waits.{oldest, taken, waiting-in-all};
+ghost use Rattle.service.specs.Piles.{waits-in};
+ghost use Rattle.service.specs.Waits.{oldest, taken, put-verdict, Put};
 use super::Pile;
 use crate::answer::Answer;
 use crate::waiting::Waiting;
@@ -31,8 +31,8 @@ impl<const N: usize> Pile<N> {
 
     /// Puts an answer behind those that wait for the node. Refused, it changes nothing.
     pub fn put(&mut self, node: u16, answer: Answer) -> Result<(), ServiceFault>
-        ensures reply { λ r. ⌜ r ≡ put-verdict N (waiting-in-all (waits-in (now (self .entry)))) node answer ⌝ }
-        ensures after { λ r. ⌜ Put (now (self .entry)) node answer r (now (self .exit)) ⌝ }
+        ensures reply { λ r. ⌜ r ≡ put-verdict N (waits-in (now (self .entry))) node answer ⌝ }
+        ensures after { λ r. ⌜ Put waits-in (now (self .entry)) node answer r (now (self .exit)) ⌝ }
     {
         if !is_node_number(node) {
             return Err(ServiceFault::NodeNumber { node });

@@ -1,7 +1,7 @@
 use native.Mathlib.Omega.{arith}
 use lib.IntN.{pos}
 use Rattle.service.specs.Answers.{answer}
-use Rattle.service.specs.Entries.{entry, place-for}
+use Rattle.service.specs.Entries.{entry}
 use Rattle.service.proofs.Entries.{place-here, place-more, place-none}
 use Rattle.service.proofs.waiting.place_for.Needs as need
 

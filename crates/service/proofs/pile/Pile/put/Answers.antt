@@ -1,4 +1,4 @@
-use mathlib.Core.Path.{_≡_, refl, sym, ap, _∙_}
+use mathlib.Core.Path.{refl, sym, ap, _∙_}
 use native.Mathlib.Omega.{arith}
 use lib.ListN.{length}
 use Prim.Native.Nat.{_<_}
@@ -6,7 +6,6 @@ use Rattle.std.proofs.shelf.Tests.{and-from}
 use Rattle.process.specs.Rows.{items}
 use Rattle.process.proofs.Formed.{pushed}
 use Rattle.service.specs.Entries.{entry, answers-for, all-sound}
-use Rattle.service.specs.Waits.{waiting-in-all}
 use Rattle.service.proofs.Entries.{sound-push, answers-push, waiting-entries}
 use Rattle.service.proofs.Verdicts.{verdict-full, verdict-room}
 use Rattle.service.proofs.pile.Pile.put.Needs as need
@@ -16,7 +15,7 @@ returns-then-len g c =
     let p = c .args .self .now in
     let total = waiting-entries (items (p .entries)) (p .sound) in
     record {
-      reply = verdict-full (g .N) (waiting-in-all (answers-for (items (p .entries)))) (c .args .node) (c .args .answer) (c .if-not-is-node-number .ensures tt) (c .if-not-in-range .ensures tt) (omega (arith, total, c .len .ensures, c .if-len .taken));
+      reply = verdict-full (g .N) (answers-for (items (p .entries))) (c .args .node) (c .args .answer) (c .if-not-is-node-number .ensures tt) (c .if-not-in-range .ensures tt) (omega (arith, total, c .len .ensures, c .if-len .taken));
       after = refl {a = p};
     }
 
@@ -37,6 +36,6 @@ returns g c =
     let room : length es < g .N = omega (arith, c .len .ensures, c .if-len .left) in
     let push = pushed es (items (c .push .last .self)) (entry (c .args .node) (c .args .answer)) (g .N) (c .push .result) (c .push .ensures .told) room (c .push .ensures .after) in
     record {
-      reply = verdict-room (g .N) (waiting-in-all (answers-for es)) (c .args .node) (c .args .answer) (c .if-not-is-node-number .ensures tt) (c .if-not-in-range .ensures tt) (omega (arith, total));
+      reply = verdict-room (g .N) (answers-for es) (c .args .node) (c .args .answer) (c .if-not-is-node-number .ensures tt) (c .if-not-in-range .ensures tt) (omega (arith, total));
       after = ap answers-for push ∙ answers-push es (c .args .node) (c .args .answer);
     }
