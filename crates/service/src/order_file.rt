@@ -22,7 +22,7 @@ pub struct OrderFile {
     fault: Option<LineFault>,
 }
 
-// The answers of the lines, in line order.
+// The answers of the lines, in line order. None is refused: their numbers lie in their ranges, and there is room for all.
 fn pile_of(lines: &[OrderLine]) -> Pile<MOST_LINES>
     requires { ⌜ orders-in-range (now lines) ≡ true ⌝ }
     requires { ⌜ length (now lines) ≤ 1489 ⌝ }
@@ -37,7 +37,7 @@ fn pile_of(lines: &[OrderLine]) -> Pile<MOST_LINES>
 }
 
 impl OrderFile {
-    /// The answers of the text, or none if it is refused.
+    /// The answers of the text; none where it is refused.
     pub fn over(text: &[u8]) -> OrderFile
         ensures { λ r. ⌜ Over (now (text .entry)) r ⌝ }
     {
@@ -53,7 +53,7 @@ impl OrderFile {
         }
     }
 
-    /// Why the text is refused.
+    /// Why the text is refused: `None` where it is accepted.
     pub fn fault(&self) -> Option<LineFault>
         ensures { λ r. ⌜ r ≡ fault-of (now (self .entry)) ⌝ }
     {

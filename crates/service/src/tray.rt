@@ -20,7 +20,7 @@ pub struct Tray {
 }
 
 impl Tray {
-    /// No answer.
+    /// An empty tray.
     pub fn new() -> Tray
         ensures { λ r. ⌜ ((n : ℕ) → waits-on r n ≡ []) ⌝ }
     {

@@ -16,7 +16,7 @@ use process::ranges::is_node_number;
 use process::row::Row;
 
 impl<const N: usize> Pile<N> {
-    /// No answer.
+    /// An empty pile.
     pub fn new() -> Self
         ensures { λ r. ⌜ ((n : ℕ) → waits-in r n ≡ []) ⌝ }
     {
