@@ -1,5 +1,5 @@
 -- The record of every fault: its number, its layer (1 text, 2 line, 3 model, 4 count, 5 service, 6 console), its place and its instance.
--- The place is an offset from 0 or a length in layer 1, a line from 1 in layer 2, and the number of a node or flow in layer 3.
+-- The place is an offset from 0 or a length in layer 1, a line from 1 in layer 2, the number of a node or flow in layer 3, and the number given for a node in layer 5.
 use Prim.Native.Nat.{ℕ}
 use Rattle.fault.specs.declared.record.FaultRecord.{FaultRecord}
 use Rattle.fault.specs.declared.text.TextFault.{TextFault}
@@ -12,6 +12,8 @@ use Rattle.fault.specs.declared.console.ConsoleFault.{ConsoleFault}
 use Rattle.fault.specs.declared.console.ConsoleFault.the-variants as console
 use Rattle.fault.specs.declared.graph.GraphFault.{GraphFault}
 use Rattle.fault.specs.declared.graph.GraphFault.the-variants as graph
+use Rattle.fault.specs.declared.service.ServiceFault.{ServiceFault}
+use Rattle.fault.specs.declared.service.ServiceFault.the-variants as service
 
 -- a fault outside a count
 abbrev told : ℕ → ℕ → ℕ → FaultRecord
@@ -41,9 +43,16 @@ model-record (model.NotReached node) = told 36 3 node
 
 abbrev pub console-record : ConsoleFault → FaultRecord
 console-record (console.Model fault) = model-record fault
+console-record (console.Order fault) = line-record fault
 console-record (console.NoRoom place) = told 46 6 place
 
 abbrev pub graph-record : GraphFault → FaultRecord
 graph-record graph.Full = told 68 4 0
 graph-record graph.Empty = told 69 4 0
 graph-record graph.TooMany = told 70 4 0
+
+abbrev pub service-record : ServiceFault → FaultRecord
+service-record (service.NodeNumber node) = told 43 5 node
+service-record service.Value = told 42 5 0
+service-record (service.Full node) = told 66 5 node
+service-record (service.NoAnswer node) = told 63 5 node

@@ -1,7 +1,10 @@
 //! Faults that the console shows (layer 6 and those below it).
 ghost use mathlib.Core.Path.{_≡_};
 ghost use Rattle.fault.specs.Records.{console-record};
-ghost use Rattle.fault.specs.declared.console.ConsoleFault.the-variants.{Model};
+ghost use Rattle.fault.specs.declared.console.ConsoleFault.the-variants.{Model, Order};
+use crate::line::LineFault;
+use crate::line::LineFaultDebug;
+use crate::line::LineFaultPartialEq;
 use crate::model::ModelFault;
 use crate::model::ModelFaultDebug;
 use crate::model::ModelFaultPartialEq;
@@ -12,6 +15,8 @@ use crate::record::FaultRecord;
 pub enum ConsoleFault {
     /// The model text is refused.
     Model(ModelFault),
+    /// The order text is refused.
+    Order(LineFault),
     /// Fewer than 512 bytes stand from the place given.
     NoRoom { place: usize },
 }
@@ -24,6 +29,14 @@ pub impl From<ModelFault> for ConsoleFault as ConsoleFaultFromModel {
     }
 }
 
+pub impl From<LineFault> for ConsoleFault as ConsoleFaultFromLine {
+    ghost converts = { λ fault r. r ≡ Order fault };
+
+    fn from(fault: LineFault) -> ConsoleFault {
+        ConsoleFault::Order(fault)
+    }
+}
+
 impl ConsoleFault {
     /// The fault's record.
     pub fn record(self) -> FaultRecord
@@ -31,6 +44,7 @@ impl ConsoleFault {
     {
         match self {
             ConsoleFault::Model(fault) => fault.record(),
+            ConsoleFault::Order(fault) => fault.record(),
             ConsoleFault::NoRoom { place } => FaultRecord {
                 number: 46,
                 layer: 6,

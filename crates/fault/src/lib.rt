@@ -7,4 +7,5 @@ pub mod graph;
 pub mod line;
 pub mod model;
 pub mod record;
+pub mod service;
 pub mod text;

@@ -21,6 +21,10 @@ use Rattle.process.specs.declared.node.Kind.the-variants as kinds
 abbrev pub is-number : ℕ → Bool
 is-number n = leb 1 n && leb n 65535
 
+-- a process has at most 40 nodes, numbered from 1
+abbrev pub is-node-number : ℕ → Bool
+is-node-number n = leb 1 n && leb n 40
+
 -- figures are numbered from 1 to 16
 abbrev pub is-figure : ℕ → Bool
 is-figure x = leb 1 x && leb x 16

@@ -2,4 +2,5 @@
 pub mod draft;
 pub mod flow;
 pub mod node;
+pub mod ranges;
 pub mod row;

@@ -2,10 +2,9 @@
 use mathlib.Core.Path.{_≡_, refl, sym, ap, subst, _∙_}
 use mathlib.Core.Bool.{true}
 use mathlib.Core.List.{List, [], _∷_, _++_, map}
-use Prim.Native.Nat.{ℕ, _-_}
+use Prim.Native.Nat.{ℕ}
 use native.Mathlib.Omega.{arith}
 use lib.Dec.{leb}
-use lib.ListN.{length, take}
 use Rattle.std.specs.declared.result.Result.{Result}
 use Rattle.std.specs.declared.result.Result.the-variants.{Ok, Err}
 use Rattle.std.proofs.shelf.Tests.{and-from, and-parts, leb-true}
@@ -21,10 +20,11 @@ use Rattle.text.proofs.Joins.{joined-pieces}
 use Rattle.reading.specs.Lines.{Process, Sofar, first-line, later-lines, all-lines, in-line, lines-of, process-read}
 use Rattle.reading.specs.Readings.{DraftRead, DraftWritten, process-of}
 use Rattle.reading.specs.Writings.{process-words, node-lines, flow-lines, process-lines, text-of, written, Formed, Describes, Describes-nothing}
-use Rattle.reading.proofs.Checked.{line-words, writing-checked, writing-lines}
+use Rattle.reading.proofs.Checked.{line-words, writing-short, writing-checked, writing-lines}
+use Rattle.reading.proofs.Describing.{describes-as, describes-none}
 use Rattle.reading.proofs.Fine.{process-fine, lines-fine, lines-few}
 use Rattle.reading.proofs.Forms.{err-not-ok, ok-same, and-then-ok, first-ok, first-number}
-use Rattle.reading.proofs.Framed.{text-of-joined, in-line-ok, text-ends}
+use Rattle.reading.proofs.Framed.{in-line-ok, text-framed}
 use Rattle.reading.proofs.Later.{lines-added, lines-formed}
 use Rattle.reading.proofs.Rebuilt.{flows-back, nodes-back}
 use Rattle.reading.proofs.Rereads.{and-then-from, first-reread}
@@ -62,9 +62,8 @@ pub read-written : (text : List ℕ) (p : Process) → process-read text ≡ Ok 
 unfolding written
 read-written text p e =
     let a = and-then-ok (in-line (text-check text)) (λ u. all-lines (lines-of text)) p e in
-    let ends = text-ends text (in-line-ok (text-check text) (a .1)) in
     let lines = lines-written (lines-of text) p (a .2) in
-    (sym ends ∙ ap (λ bs. bs ++ 10 ∷ []) (sym (joined-pieces 10 (take (length text - 1) text)) ∙ ap (joined 10) (lines .0)) ∙ sym (text-of-joined (process-words (p .number)) (node-lines 1 (p .nodes) ++ flow-lines 1 (p .flows))), lines .1)
+    (text-framed text (process-words (p .number)) (node-lines 1 (p .nodes) ++ flow-lines 1 (p .flows)) (in-line-ok (text-check text) (a .1)) (lines .0), lines .1)
 
 -- ---- what is written is read back
 
@@ -86,22 +85,16 @@ written-read p h =
     let more = node-lines 1 (p .nodes) ++ flow-lines 1 (p .flows) in
     let fine = lines-fine p h in
     and-then-from (in-line (text-check (text-of (first ∷ more)))) (λ u. all-lines (lines-of (text-of (first ∷ more)))) tt p
-    (ap in-line (writing-checked first more fine (lines-few p h)))
+    (ap in-line (writing-checked first more fine (writing-short first more fine (lines-few p h))))
     (ap all-lines (writing-lines first more fine) ∙ lines-back p h)
 
 -- what was read is the only process of which the text is the writing
 pub describes : (text : List ℕ) (p : Process) → process-read text ≡ Ok p → Describes text p
-describes text p e =
-    let w = read-written text p e in
-    record {
-      writing = w .0;
-      formed = w .1;
-      only = λ q f h. let r = written-read q f in let s = ap process-read h in cc;
-    }
+describes text p e = describes-as written Formed process-read read-written written-read text p e
 
 -- a text at fault is the writing of no process
 pub describes-nothing : (text : List ℕ) (fault : LineFault) → process-read text ≡ Err fault → Describes-nothing text
-describes-nothing text fault e = λ p f h. let r = written-read p f in let s = ap process-read h in let z : _≡_ {A = ℕ} 0 1 = cc in omega arith
+describes-nothing text fault e = describes-none written Formed process-read read-written written-read text fault e
 
 pub draft-written : (text : List ℕ) (r : Result Draft LineFault) → DraftRead text r → DraftWritten text r
 draft-written text (Ok d) e = describes text (process-of d) e

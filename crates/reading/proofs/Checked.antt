@@ -74,13 +74,17 @@ module _ (ws : List (List ℕ)) (ls : List (List (List ℕ))) (all : All Fine-li
   unfolding body
   ends = omega (arith, ap length (text-of-joined ws ls), length-push body 10)
 
-  pub writing-checked : length (ws ∷ ls) ≤ 105 → text-check (text-of (ws ∷ ls)) ≡ Ok tt
+  -- at most 105 such lines are no longer than a text may be
+  pub writing-short : length (ws ∷ ls) ≤ 105 → length (text-of (ws ∷ ls)) ≤ 16384
+  writing-short few = omega (arith, length-text (ws ∷ ls) all)
+
+  pub writing-checked : length (text-of (ws ∷ ls)) ≤ 16384 → text-check (text-of (ws ∷ ls)) ≡ Ok tt
   unfolding body
-  writing-checked few =
+  writing-checked short =
       let t = text-of (ws ∷ ls) in
       checked t
       (omega (arith, length-append (joined 32 ws) (10 ∷ text-of ls)))
-      (omega (arith, length-text (ws ∷ ls) all))
+      short
       (allowed-text (ws ∷ ls) all)
       (ap (λ l. getD l (length t - 1) 0) (text-of-joined ws ls) ∙ getD-push body 10 0 (length t - 1) ends)
 

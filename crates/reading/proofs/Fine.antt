@@ -37,7 +37,7 @@ pub record Fine (w : List ℕ) : Type 0 where
   pub is : word-of w ≡ Some token
   pub short : length w ≤ 11
 
-fine-spelling : (k : Keyword) → Fine (spelling k)
+pub fine-spelling : (k : Keyword) → Fine (spelling k)
 fine-spelling k = record { token = keyword k; is = word-spelling k; short = short k }
   where
     short : (k : Keyword) → length (spelling k) ≤ 11
@@ -65,10 +65,10 @@ fine-symbol o = record { token = operator o; is = word-symbol o; short = short o
     short operators.AtLeast = omega arith
     short operators.Greater = omega arith
 
-fine-decimal : (n : ℕ) → n ≤ 65535 → Fine (decimal n)
+pub fine-decimal : (n : ℕ) → n ≤ 65535 → Fine (decimal n)
 fine-decimal n h = record { token = number (decimal n); is = word-decimal n (omega arith); short = omega (arith, length-decimal-le 5 n (omega arith) (omega arith) (omega arith)) }
 
-fine-signed : (c : ℤ) → is-value c ≡ true → Fine (signed c)
+pub fine-signed : (c : ℤ) → is-value c ≡ true → Fine (signed c)
 fine-signed c h =
     let few = value-small c h in
     record { token = number (signed c); is = word-signed c (omega arith); short = length-signed-le 10 c (omega arith) (omega arith) }

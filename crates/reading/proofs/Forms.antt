@@ -8,7 +8,7 @@ use lib.IntN.{ℤ, pos, negsuc, natAbs}
 use lib.ListN.{length, drop}
 use lib.Signed.{_≤ℤ_}
 use Rattle.std.specs.Options.{mapped, okOr}
-use Rattle.std.specs.Written.{decimal, signed}
+use Rattle.std.specs.Written.{decimal}
 use Rattle.std.specs.declared.option.Option.{Option}
 use Rattle.std.specs.declared.option.Option.the-variants.{Some, None}
 use Rattle.std.specs.declared.result.Result.{Result}
@@ -25,7 +25,7 @@ use Rattle.text.specs.Numbers.{numeral, Names}
 use Rattle.text.specs.Texts.{text-check}
 use Rattle.text.specs.Words.{Token, keyword, number, figure, operator, words-of}
 use Rattle.text.proofs.Numerals.{numeral-names}
-use Rattle.reading.specs.Fields.{and-then, Words, Parsed, field, as-number, as-figure, as-value, as-operator, counted, valued, number-field, figure-field}
+use Rattle.reading.specs.Fields.{and-then, Words, Parsed, field, as-counted, as-figure, as-value, as-operator, counted, valued, counted-field, number-field, figure-field}
 use Rattle.reading.specs.Lines.{ended, process-entry, opens-process, as-process, first-line, later-lines, all-lines, in-line, lines-of, process-read}
 
 module _ {X : Type 0} {E : Type 0} where
@@ -56,16 +56,16 @@ field-ok reads line (None ∷ ts) v e = absurd (err-not-ok (Form line) v e)
 field-ok reads line (Some t ∷ ts) v e = (t, (ts, refl, e))
 
 -- a number field is a number word
-as-number-ok : (line : ℕ) (t : Token) (ts : Words) (v : Result ℕ LineFault × Words) → as-number line t ts ≡ Ok v → (w : List ℕ) × (t ≡ number w) × ((counted line 65535 w, ts) ≡ v)
-as-number-ok line (keyword k) ts v e = absurd (err-not-ok (Form line) v e)
-as-number-ok line (number w) ts v e = (w, refl, ok-same (counted line 65535 w, ts) v e)
-as-number-ok line (figure w) ts v e = absurd (err-not-ok (Form line) v e)
-as-number-ok line (operator o) ts v e = absurd (err-not-ok (Form line) v e)
+as-counted-ok : (high line : ℕ) (t : Token) (ts : Words) (v : Result ℕ LineFault × Words) → as-counted high line t ts ≡ Ok v → (w : List ℕ) × (t ≡ number w) × ((counted line high w, ts) ≡ v)
+as-counted-ok high line (keyword k) ts v e = absurd (err-not-ok (Form line) v e)
+as-counted-ok high line (number w) ts v e = (w, refl, ok-same (counted line high w, ts) v e)
+as-counted-ok high line (figure w) ts v e = absurd (err-not-ok (Form line) v e)
+as-counted-ok high line (operator o) ts v e = absurd (err-not-ok (Form line) v e)
 
-pub number-ok : (line : ℕ) (ts : Words) (v : Result ℕ LineFault × Words) → number-field line ts ≡ Ok v → (w : List ℕ) × (ts ≡ Some (number w) ∷ v .1) × (counted line 65535 w ≡ v .0)
-number-ok line ts v e =
-    let p = field-ok as-number line ts v e in
-    let q = as-number-ok line (p .0) (p .1 .0) v (p .1 .2) in
+pub number-ok : (high line : ℕ) (ts : Words) (v : Result ℕ LineFault × Words) → counted-field high line ts ≡ Ok v → (w : List ℕ) × (ts ≡ Some (number w) ∷ v .1) × (counted line high w ≡ v .0)
+number-ok high line ts v e =
+    let p = field-ok (as-counted high) line ts v e in
+    let q = as-counted-ok high line (p .0) (p .1 .0) v (p .1 .2) in
     (q .0, p .1 .1 ∙ (λ i. Some (q .1 i) ∷ q .2 i .1), ap (λ x. x .0) (q .2))
 
 -- a figure field is a figure word
@@ -132,8 +132,8 @@ valued-some : (line : ℕ) (c : ℤ) (r : Option ℤ) → okOr r (Number line) �
 valued-some line c None e = absurd (err-not-ok (Number line) c e)
 valued-some line c (Some v) e = ap Some (ok-same v c e)
 
-pub valued-ok : (line : ℕ) (w : List ℕ) (c : ℤ) → valued line w ≡ Ok c → w ≡ signed c
-valued-ok line w c e = numeral-names (negsuc 999999999) (pos 1000000000) (omega arith) (omega arith) w c (valued-some line c (numeral (negsuc 999999999) (pos 1000000000) w) e) .same
+pub valued-ok : (line : ℕ) (w : List ℕ) (c : ℤ) → valued line w ≡ Ok c → Names w (negsuc 999999999) (pos 1000000000) c
+valued-ok line w c e = numeral-names (negsuc 999999999) (pos 1000000000) (omega arith) (omega arith) w c (valued-some line c (numeral (negsuc 999999999) (pos 1000000000) w) e)
 
 opens-ok : (line : ℕ) (k : Keyword) (ts : Words) (n : ℕ) → opens-process line k ts ≡ Ok n → (k ≡ keywords.Process) × (process-entry line ts ≡ Ok n)
 opens-ok line keywords.Process ts n e = (refl, e)
@@ -168,7 +168,7 @@ ended-ok line (t ∷ ts) e = absurd (err-not-ok (Form line) tt e)
 entry-ok : (line : ℕ) (ts : Words) (n : ℕ) → process-entry line ts ≡ Ok n → First-words (Some (keyword keywords.Process) ∷ ts) n
 entry-ok line ts n e =
     let p = and-then-ok (number-field line ts) _ n e in
-    let q = number-ok line ts (p .0) (p .1) in
+    let q = number-ok 65535 line ts (p .0) (p .1) in
     let r = and-then-ok (ended line (p .0 .1)) (λ u. p .0 .0) n (p .2) in
     record {
       word = q .0;

@@ -1,12 +1,16 @@
 pub mod Admitting
 pub mod Allowed
+pub mod Answering
 pub mod Canonical
 pub mod Checked
+pub mod Describing
 pub mod Fine
 pub mod Forms
 pub mod Framed
 pub mod Later
+pub mod Orders
 pub mod Rebuilt
 pub mod Rereads
+pub mod Room
 pub mod Stands
 pub mod Steps

@@ -26,7 +26,7 @@ use Rattle.text.specs.declared.words.Keyword.the-variants as keywords
 use Rattle.text.specs.Words.{symbol, word-of}
 use Rattle.text.proofs.Numerals.{numeral-of-signed}
 use Rattle.text.proofs.Tokens.{word-spelling, word-symbol, word-decimal, word-signed, word-figure-decimal}
-use Rattle.reading.specs.Fields.{and-then, Words, counted, valued, field, as-value, as-operator, as-kind, as-guard, number-field, figure-field, guard-field}
+use Rattle.reading.specs.Fields.{and-then, Words, counted, valued, field, as-value, as-operator, as-kind, as-guard, counted-field, number-field, figure-field, guard-field}
 use Rattle.reading.specs.Lines.{node-line, flow-line, later-line, first-line}
 use Rattle.reading.specs.Writings.{figure-word, kind-words, guard-words, process-words, node-words, flow-words}
 
@@ -58,8 +58,8 @@ valued-signed line c h =
     ap (λ o. okOr o (Number line)) (numeral-of-signed (negsuc 999999999) (pos 1000000000) (omega arith) (omega arith) c (r .0) (r .1))
 
 module _ (line : ℕ) (more : Words) where
-  number-reread : (n : ℕ) → 1 ≤ n → n ≤ 65535 → number-field line (word-of (decimal n) ∷ more) ≡ Ok (Ok n, more)
-  number-reread n low most = ap (λ o. number-field line (o ∷ more)) (word-decimal n (omega arith)) ∙ ap (λ r. Ok (r, more)) (counted-decimal line 65535 n (omega arith) low most)
+  pub number-reread : (high n : ℕ) → high ≤ 65535 → 1 ≤ n → n ≤ high → counted-field high line (word-of (decimal n) ∷ more) ≡ Ok (Ok n, more)
+  number-reread high n few low most = ap (λ o. counted-field high line (o ∷ more)) (word-decimal n (omega arith)) ∙ ap (λ r. Ok (r, more)) (counted-decimal line high n (omega arith) low most)
 
   figure-reread : (x : ℕ) → is-figure x ≡ true → figure-field line (word-of (figure-word x) ∷ more) ≡ Ok (Ok x, more)
   figure-reread x h =
@@ -71,7 +71,7 @@ module _ (line : ℕ) (more : Words) where
   operator-reread : (o : Operator) → field as-operator line (word-of (symbol o) ∷ more) ≡ Ok (Ok o, more)
   operator-reread o = ap (λ t. field as-operator line (t ∷ more)) (word-symbol o)
 
-  value-reread : (c : ℤ) → is-value c ≡ true → field as-value line (word-of (signed c) ∷ more) ≡ Ok (Ok c, more)
+  pub value-reread : (c : ℤ) → is-value c ≡ true → field as-value line (word-of (signed c) ∷ more) ≡ Ok (Ok c, more)
   value-reread c h = ap (λ o. field as-value line (o ∷ more)) (word-signed c (omega (arith, value-small c h))) ∙ ap (λ r. Ok (r, more)) (valued-signed line c h)
 
 -- ---- kinds and guards, which end a line
@@ -104,7 +104,7 @@ pub first-reread : (line n : ℕ) → is-number n ≡ true → first-line line (
 first-reread line n h =
     let p = and-parts (leb 1 n) (leb n 65535) h in
     ap (λ o. first-line line (o ∷ word-of (decimal n) ∷ [])) (word-spelling keywords.Process)
-    ∙ and-then-from (number-field line (word-of (decimal n) ∷ [])) _ (Ok n, []) n (number-reread line [] n (leb-true 1 n (p .0)) (leb-true n 65535 (p .1))) refl
+    ∙ and-then-from (number-field line (word-of (decimal n) ∷ [])) _ (Ok n, []) n (number-reread line [] 65535 n (omega arith) (leb-true 1 n (p .0)) (leb-true n 65535 (p .1))) refl
 
 node-adds : (nodes : List Kind) (line : ℕ) (k : Kind) → kind-in-range k ≡ true → length nodes < 40 → node-added nodes line (length nodes + 1) k ≡ Ok (nodes ++ k ∷ [])
 node-adds nodes line k range few =
@@ -115,7 +115,7 @@ node-adds nodes line k range few =
 node-reread : (line : ℕ) (nodes : List Kind) (k : Kind) → kind-in-range k ≡ true → length nodes < 40 → node-line line nodes (map word-of (decimal (length nodes + 1) ∷ kind-words k)) ≡ Ok (nodes ++ k ∷ [])
 node-reread line nodes k range few =
     let rest = map word-of (kind-words k) in
-    and-then-from (number-field line (word-of (decimal (length nodes + 1)) ∷ rest)) _ (Ok (length nodes + 1), rest) _ (number-reread line rest (length nodes + 1) (omega arith) (omega arith))
+    and-then-from (number-field line (word-of (decimal (length nodes + 1)) ∷ rest)) _ (Ok (length nodes + 1), rest) _ (number-reread line rest 65535 (length nodes + 1) (omega arith) (omega arith) (omega arith))
     (and-then-from (field as-kind line rest) _ (Ok k, []) _ (kind-reread line k range) (node-adds nodes line k range few))
 
 -- one more node, while there is no flow
@@ -146,9 +146,9 @@ module _ (line : ℕ) (nodes : List Kind) (room : length nodes ≤ 40) (flows : 
       let from = node-range nodes (f .from) (p .0) in
       let to = node-range nodes (f .to) (q .0) in
       let guard = map word-of (guard-words (f .guard)) in
-      and-then-from (number-field line (word-of (decimal (length flows + 1)) ∷ word-of (decimal (f .from)) ∷ word-of (decimal (f .to)) ∷ guard)) _ (Ok (length flows + 1), word-of (decimal (f .from)) ∷ word-of (decimal (f .to)) ∷ guard) _ (number-reread line _ (length flows + 1) (omega arith) (omega arith))
-      (and-then-from (number-field line (word-of (decimal (f .from)) ∷ word-of (decimal (f .to)) ∷ guard)) _ (Ok (f .from), word-of (decimal (f .to)) ∷ guard) _ (number-reread line _ (f .from) (from .0) (omega arith))
-      (and-then-from (number-field line (word-of (decimal (f .to)) ∷ guard)) _ (Ok (f .to), guard) _ (number-reread line _ (f .to) (to .0) (omega arith))
+      and-then-from (number-field line (word-of (decimal (length flows + 1)) ∷ word-of (decimal (f .from)) ∷ word-of (decimal (f .to)) ∷ guard)) _ (Ok (length flows + 1), word-of (decimal (f .from)) ∷ word-of (decimal (f .to)) ∷ guard) _ (number-reread line _ 65535 (length flows + 1) (omega arith) (omega arith) (omega arith))
+      (and-then-from (number-field line (word-of (decimal (f .from)) ∷ word-of (decimal (f .to)) ∷ guard)) _ (Ok (f .from), word-of (decimal (f .to)) ∷ guard) _ (number-reread line _ 65535 (f .from) (omega arith) (from .0) (omega arith))
+      (and-then-from (number-field line (word-of (decimal (f .to)) ∷ guard)) _ (Ok (f .to), guard) _ (number-reread line _ 65535 (f .to) (omega arith) (to .0) (omega arith))
       (and-then-from (guard-field line guard) _ (Ok (f .guard), []) _ (guard-reread line (f .guard) (q .1)) (flow-adds nodes flows line f formed few))))
 
   -- one more flow

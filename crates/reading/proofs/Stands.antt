@@ -2,7 +2,7 @@
 use mathlib.Core.Path.{_≡_, refl, sym, ap, subst, _∙_}
 use mathlib.Core.Bool.{true}
 use mathlib.Core.List.{List, [], _∷_, _++_, map, append-nil, append-assoc}
-use Prim.Native.Nat.{ℕ}
+use Prim.Native.Nat.{ℕ, _<_, _^_}
 use native.Mathlib.Omega.{arith}
 use lib.Dec.{eqb}
 use lib.IntN.{ℤ}
@@ -24,7 +24,7 @@ use Rattle.text.specs.declared.words.Keyword.the-variants as keywords
 use Rattle.text.specs.Numbers.{some-digits, figure-shape}
 use Rattle.text.specs.Words.{Token, keyword, number, figure, operator, spelling, symbol, word-of}
 use Rattle.text.proofs.Tokens.{Reads, reads-from-word}
-use Rattle.reading.specs.Fields.{and-then, Words, Parsed, field, as-value, as-operator, as-kind, as-guard, number-field, figure-field, task-kind, kind-named, guard-named, condition, condition-value, guard-field}
+use Rattle.reading.specs.Fields.{and-then, Words, Parsed, field, as-value, as-operator, as-kind, as-guard, counted-field, figure-field, task-kind, kind-named, guard-named, condition, condition-value, guard-field}
 use Rattle.reading.specs.Writings.{figure-word, kind-words, guard-words}
 use Rattle.reading.proofs.Forms.{err-not-ok, ok-same, and-then-ok, field-ok, number-ok, figure-ok, value-ok, operator-ok, counted-ok, valued-ok}
 
@@ -66,17 +66,17 @@ after-v (b ∷ w) h = ap (λ x. x ∷ w) (eqb-true b 118 (and-parts (eqb b 118) 
 -- ---- the fields of one word
 
 module _ (line : ℕ) (ps : List (List ℕ)) (ts : Words) (of : map word-of ps ≡ ts) where
-  pub number-stands : (v : Result ℕ LineFault × Words) (n : ℕ) → number-field line ts ≡ Ok v → v .0 ≡ Ok n → Stands (decimal n ∷ []) ps (v .1)
-  number-stands v n e is =
-      let p = number-ok line ts v e in
+  pub number-stands : (high : ℕ) → high < 2 ^ 31 → (v : Result ℕ LineFault × Words) (n : ℕ) → counted-field high line ts ≡ Ok v → v .0 ≡ Ok n → Stands (decimal n ∷ []) ps (v .1)
+  number-stands high few v n e is =
+      let p = number-ok high line ts v e in
       let q = next-stands ps (number (p .0)) (v .1) (of ∙ p .1) in
-      subst (λ w. Stands (w ∷ []) ps (v .1)) (sym (q .2 .0) ∙ counted-ok line 65535 (p .0) n (omega arith) (p .2 ∙ is) .same) (q .1)
+      subst (λ w. Stands (w ∷ []) ps (v .1)) (sym (q .2 .0) ∙ counted-ok line high (p .0) n few (p .2 ∙ is) .same) (q .1)
 
-  value-stands : (v : Result ℤ LineFault × Words) (c : ℤ) → field as-value line ts ≡ Ok v → v .0 ≡ Ok c → Stands (signed c ∷ []) ps (v .1)
+  pub value-stands : (v : Result ℤ LineFault × Words) (c : ℤ) → field as-value line ts ≡ Ok v → v .0 ≡ Ok c → Stands (signed c ∷ []) ps (v .1)
   value-stands v c e is =
       let p = value-ok line ts v e in
       let q = next-stands ps (number (p .0)) (v .1) (of ∙ p .1) in
-      subst (λ w. Stands (w ∷ []) ps (v .1)) (sym (q .2 .0) ∙ valued-ok line (p .0) c (p .2 ∙ is)) (q .1)
+      subst (λ w. Stands (w ∷ []) ps (v .1)) (sym (q .2 .0) ∙ valued-ok line (p .0) c (p .2 ∙ is) .same) (q .1)
 
   operator-stands : (v : Result Operator LineFault × Words) (o : Operator) → field as-operator line ts ≡ Ok v → v .0 ≡ Ok o → Stands (symbol o ∷ []) ps (v .1)
   operator-stands v o e is =

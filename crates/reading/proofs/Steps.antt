@@ -4,6 +4,7 @@ use mathlib.Core.Bool.{true, not, _&&_}
 use mathlib.Core.List.{List, [], _∷_, _++_, map}
 use mathlib.Core.Logic.{_⊎_, inl, inr}
 use Prim.Native.Nat.{ℕ, _+_, _<_}
+use native.Mathlib.Omega.{arith}
 use lib.Dec.{eqb, leb}
 use lib.ListN.{length}
 use Rattle.std.specs.Written.{decimal}
@@ -63,7 +64,7 @@ node-ok line nodes ps ts ns of e =
     let m = and-then-ok (n .0 .0) _ ns (u .2) in
     let j = and-then-ok (k .0 .0) _ ns (m .2) in
     let a = node-added-ok nodes line (m .0) (j .0) ns (j .2) in
-    let s = number-stands line ps ts of (n .0) (m .0) (n .1) (m .1) in
+    let s = number-stands line ps ts of 65535 (omega arith) (n .0) (m .0) (n .1) (m .1) in
     let t = kind-stands line (s .rest) (n .0 .1) (s .left) (k .0) (j .0) (k .1) (j .1) in
     let all = then-stands (decimal (m .0) ∷ []) (kind-words (j .0)) ps (n .0 .1) (k .0 .1) s t in
     record {
@@ -116,9 +117,9 @@ flow-ok line nodes flows ps ts fs of e =
     let to = and-then-ok (b .0 .0) _ fs (from .2) in
     let guard = and-then-ok (g .0 .0) _ fs (to .2) in
     let added = flow-added-ok nodes flows line (m .0) (from .0) (to .0) (guard .0) fs (guard .2) in
-    let s = number-stands line ps ts of (n .0) (m .0) (n .1) (m .1) in
-    let t = number-stands line (s .rest) (n .0 .1) (s .left) (a .0) (from .0) (a .1) (from .1) in
-    let v = number-stands line (t .rest) (a .0 .1) (t .left) (b .0) (to .0) (b .1) (to .1) in
+    let s = number-stands line ps ts of 65535 (omega arith) (n .0) (m .0) (n .1) (m .1) in
+    let t = number-stands line (s .rest) (n .0 .1) (s .left) 65535 (omega arith) (a .0) (from .0) (a .1) (from .1) in
+    let v = number-stands line (t .rest) (a .0 .1) (t .left) 65535 (omega arith) (b .0) (to .0) (b .1) (to .1) in
     let w = guard-stands line (v .rest) (b .0 .1) (v .left) (g .0) (guard .0) (g .1) (guard .1) in
     let vw = then-stands (decimal (to .0) ∷ []) (guard-words (guard .0)) (t .rest) (b .0 .1) (g .0 .1) v w in
     let tvw = then-stands (decimal (from .0) ∷ []) _ (s .rest) (a .0 .1) (g .0 .1) t vw in

@@ -55,12 +55,12 @@ counted line high w = okOr (mapped natAbs (numeral (pos 1) (pos high) w)) (Numbe
 abbrev pub valued : ℕ → List ℕ → Result ℤ LineFault
 valued line w = okOr (numeral (negsuc 999999999) (pos 1000000000) w) (Number line)
 
--- the number of a process, a node or a flow
-abbrev pub as-number : ℕ → Token → Words → Parsed ℕ
-as-number line (keyword k) ts = Err (Form line)
-as-number line (number w) ts = Ok (counted line 65535 w, ts)
-as-number line (figure w) ts = Err (Form line)
-as-number line (operator o) ts = Err (Form line)
+-- a number from 1 to high
+abbrev pub as-counted : ℕ → ℕ → Token → Words → Parsed ℕ
+as-counted high line (keyword k) ts = Err (Form line)
+as-counted high line (number w) ts = Ok (counted line high w, ts)
+as-counted high line (figure w) ts = Err (Form line)
+as-counted high line (operator o) ts = Err (Form line)
 
 -- the number of a figure, after its `v`
 abbrev pub as-figure : ℕ → Token → Words → Parsed ℕ
@@ -69,7 +69,7 @@ as-figure line (number w) ts = Err (Form line)
 as-figure line (figure w) ts = Ok (counted line 16 (drop 1 w), ts)
 as-figure line (operator o) ts = Err (Form line)
 
--- the value that a figure is compared with
+-- the value of a figure
 abbrev pub as-value : ℕ → Token → Words → Parsed ℤ
 as-value line (keyword k) ts = Err (Form line)
 as-value line (number w) ts = Ok (valued line w, ts)
@@ -86,8 +86,12 @@ as-operator line (operator o) ts = Ok (Ok o, ts)
 abbrev pub field : {X : Type 0} → (ℕ → Token → Words → Parsed X) → ℕ → Words → Parsed X
 field reads line ts = elim (next-word ts) [ None ↦ Err (Form line) | Some p ↦ reads line (p .0) (p .1) ]
 
+abbrev pub counted-field : ℕ → ℕ → Words → Parsed ℕ
+counted-field high line ts = field (as-counted high) line ts
+
+-- the number of a process, a node or a flow
 abbrev pub number-field : ℕ → Words → Parsed ℕ
-number-field line ts = field as-number line ts
+number-field line ts = counted-field 65535 line ts
 
 abbrev pub figure-field : ℕ → Words → Parsed ℕ
 figure-field line ts = field as-figure line ts

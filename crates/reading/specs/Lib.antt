@@ -1,4 +1,5 @@
 pub mod Fields
 pub mod Lines
+pub mod Orders
 pub mod Readings
 pub mod Writings

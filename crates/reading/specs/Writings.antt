@@ -70,12 +70,20 @@ pub record Formed (p : Process) : Type 0 where
   pub few-nodes : length (p .nodes) ≤ 40
   pub few-flows : length (p .flows) ≤ 64
 
+-- the text is the writing of x, which is well formed, and of no other
+pub record Describes-as {X : Type 0} (write : X → List ℕ) (Well : X → Type 0) (text : List ℕ) (x : X) : Type 0 where
+  pub writing : text ≡ write x
+  pub formed : Well x
+  pub only : (y : X) → Well y → text ≡ write y → y ≡ x
+
+-- the text is the writing of nothing that is well formed
+abbrev pub Describes-none : {X : Type 0} → (X → List ℕ) → (X → Type 0) → List ℕ → Type 0
+Describes-none {X} write Well text = (x : X) → Well x → text ≡ write x → ⊥
+
 -- the text is the writing of p and of no other process
-pub record Describes (text : List ℕ) (p : Process) : Type 0 where
-  pub writing : text ≡ written p
-  pub formed : Formed p
-  pub only : (q : Process) → Formed q → text ≡ written q → q ≡ p
+abbrev pub Describes : List ℕ → Process → Type 0
+Describes text p = Describes-as written Formed text p
 
 -- the text is the writing of no process
 abbrev pub Describes-nothing : List ℕ → Type 0
-Describes-nothing text = (p : Process) → Formed p → text ≡ written p → ⊥
+Describes-nothing text = Describes-none written Formed text

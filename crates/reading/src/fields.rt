@@ -2,7 +2,7 @@
 ghost use mathlib.Core.Path.{_≡_};
 ghost use lib.ListN.{drop};
 ghost use Rattle.text.specs.Words.{words-left};
-ghost use Rattle.reading.specs.Fields.{parsed, SameLine, counted, valued, number-field, figure-field, field, as-operator, as-value, as-kind, guard-field, task-kind, condition, condition-value};
+ghost use Rattle.reading.specs.Fields.{parsed, SameLine, counted, valued, counted-field, number-field, figure-field, field, as-operator, as-value, as-kind, guard-field, task-kind, condition, condition-value};
 use fault::line::LineFault;
 use process::flow::Condition;
 use process::flow::Guard;
@@ -22,11 +22,11 @@ pub(crate) struct Field<'a, T> {
     pub(crate) rest: Rest<'a>,
 }
 
-// The number of a process, a node or a flow that the part of the text writes.
-fn counted(part: Part<'_>) -> Result<u16, LineFault>
-    ensures { λ r. ⌜ r ≡ counted (part .entry .line) 65535 (now (part .entry .bytes)) ⌝ }
+// The number from 1 to `high` that the part of the text writes.
+fn counted(part: Part<'_>, high: u16) -> Result<u16, LineFault>
+    ensures { λ r. ⌜ r ≡ counted (part .entry .line) high (now (part .entry .bytes)) ⌝ }
 {
-    match number(part.bytes, 1, 65_535) {
+    match number(part.bytes, 1, i32::from(high)) {
         Some(value) => Ok(value as u16),
         None => Err(LineFault::Number { line: part.line }),
     }
@@ -62,18 +62,34 @@ fn valued(part: Part<'_>) -> Result<i32, LineFault>
     }
 }
 
+// A number from 1 to `high`.
+fn counted_field<'a>(rest: Rest<'a>, high: u16) -> Result<Field<'a, u16>, LineFault>
+    ensures words { λ r. ⌜ parsed r ≡ counted-field high (rest .entry .line) (words-left (rest .entry)) ⌝ }
+    ensures line { λ r. ⌜ SameLine (rest .entry .line) r ⌝ }
+{
+    match rest.next() {
+        Some((Word::Number(part), rest)) => Ok(Field {
+            value: counted(part, high),
+            rest,
+        }),
+        _ => Err(LineFault::Form { line: rest.line }),
+    }
+}
+
 /// The number of a process, a node or a flow.
 pub(crate) fn number_field<'a>(rest: Rest<'a>) -> Result<Field<'a, u16>, LineFault>
     ensures words { λ r. ⌜ parsed r ≡ number-field (rest .entry .line) (words-left (rest .entry)) ⌝ }
     ensures line { λ r. ⌜ SameLine (rest .entry .line) r ⌝ }
 {
-    match rest.next() {
-        Some((Word::Number(part), rest)) => Ok(Field {
-            value: counted(part),
-            rest,
-        }),
-        _ => Err(LineFault::Form { line: rest.line }),
-    }
+    counted_field(rest, 65_535)
+}
+
+/// The number of a node that some process has.
+pub(crate) fn node_field<'a>(rest: Rest<'a>) -> Result<Field<'a, u16>, LineFault>
+    ensures words { λ r. ⌜ parsed r ≡ counted-field 40 (rest .entry .line) (words-left (rest .entry)) ⌝ }
+    ensures line { λ r. ⌜ SameLine (rest .entry .line) r ⌝ }
+{
+    counted_field(rest, 40)
 }
 
 // The number of a figure, after its `v`.
@@ -104,8 +120,8 @@ fn operator_field<'a>(rest: Rest<'a>) -> Result<Field<'a, Operator>, LineFault>
     }
 }
 
-// The value that a figure is compared with.
-fn value_field<'a>(rest: Rest<'a>) -> Result<Field<'a, i32>, LineFault>
+/// The value of a figure.
+pub(crate) fn value_field<'a>(rest: Rest<'a>) -> Result<Field<'a, i32>, LineFault>
     ensures words { λ r. ⌜ parsed r ≡ field as-value (rest .entry .line) (words-left (rest .entry)) ⌝ }
     ensures line { λ r. ⌜ SameLine (rest .entry .line) r ⌝ }
 {

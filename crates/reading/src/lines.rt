@@ -17,8 +17,8 @@ use text::words::Keyword;
 use text::words::Rest;
 use text::words::Word;
 
-// Refuses a line of which some word is left.
-fn end_of_line(rest: Rest<'_>) -> Result<(), LineFault>
+/// Refuses a line of which some word is left.
+pub(crate) fn end_of_line(rest: Rest<'_>) -> Result<(), LineFault>
     ensures { λ r. ⌜ r ≡ ended (rest .entry .line) (words-left (rest .entry)) ⌝ }
 {
     if rest.is_done() {

@@ -3,10 +3,10 @@ use mathlib.Core.Path.{_≡_, refl, sym, ap, subst, _∙_}
 use mathlib.Core.Bool.{true, cond}
 use mathlib.Core.List.{List, [], _∷_, _++_, append-nil}
 use mathlib.Core.Logic.{⊎-elim}
-use Prim.Native.Nat.{ℕ, _<_}
+use Prim.Native.Nat.{ℕ, _+_, _<_}
 use native.Mathlib.Omega.{arith}
 use lib.Dec.{eqb}
-use lib.ListN.{length}
+use lib.ListN.{length, length-append}
 use Rattle.std.specs.shelf.Lists.{All}
 use Rattle.std.proofs.shelf.Tests.{and-from, and-parts, not-from-false, not-true, eq-eqb, ne-eqb}
 use Rattle.std.proofs.shelf.Ways.{eqb-tells}
@@ -31,6 +31,21 @@ joined-pieces sep (b ∷ bs) =
     (λ p. ap (λ t. joined sep (cond t ([] ∷ pieces sep bs) (before-first b (pieces sep bs)))) (p .0) ∙ joined-skip sep (pieces sep bs) (pieces-some sep bs) ∙ (λ i. sym (p .1) i ∷ joined-pieces sep bs i))
     (λ p. ap (λ t. joined sep (cond t ([] ∷ pieces sep bs) (before-first b (pieces sep bs)))) (p .0) ∙ joined-first sep b (pieces sep bs) (pieces-some sep bs) ∙ ap (λ l. b ∷ l) (joined-pieces sep bs))
     (eqb-tells b sep)
+
+-- ---- how long the pieces are
+
+-- the bytes of some pieces, each with a separator
+abbrev pub weight : List (List ℕ) → ℕ
+weight [] = 0
+weight (w ∷ ws) = length w + 1 + weight ws
+
+weight-joined : (sep : ℕ) (ws : List (List ℕ)) → 0 < length ws → weight ws ≡ length (joined sep ws) + 1
+weight-joined sep [] some = absurd (omega arith)
+weight-joined sep (w ∷ []) some = omega arith
+weight-joined sep (w ∷ v ∷ vs) some = omega (arith, length-append w (sep ∷ joined sep (v ∷ vs)), weight-joined sep (v ∷ vs) (omega arith))
+
+pub weight-pieces : (sep : ℕ) (bs : List ℕ) → weight (pieces sep bs) ≡ length bs + 1
+weight-pieces sep bs = weight-joined sep (pieces sep bs) (pieces-some sep bs) ∙ ap (λ l. length l + 1) (joined-pieces sep bs)
 
 -- ---- the pieces of joined words are the words
 

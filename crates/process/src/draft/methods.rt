@@ -6,7 +6,7 @@ ghost use Prim.Native.Nat.{_≤_};
 ghost use Rattle.std.specs.Results.{Cases};
 ghost use Rattle.fault.specs.declared.line.LineFault.the-variants.{Number};
 ghost use Rattle.process.specs.Drafts.{number-of, nodes-of, flows-of, NodeAdded, FlowAdded};
-ghost use Rattle.process.specs.Processes.{is-number, kind-in-range, guard-in-range, is-node, is-figure, is-value};
+ghost use Rattle.process.specs.Processes.{is-number, kind-in-range, guard-in-range, is-node};
 use super::Draft;
 use super::MOST_FLOWS;
 use super::MOST_NODES;
@@ -14,22 +14,10 @@ use crate::flow::Condition;
 use crate::flow::Flow;
 use crate::flow::Guard;
 use crate::node::Kind;
+use crate::ranges::is_figure;
+use crate::ranges::is_value;
 use crate::row::Row;
 use fault::line::LineFault;
-
-/// Whether a figure has this number.
-pub fn is_figure(figure: u8) -> bool
-    ensures { λ r. ⌜ r ≡ is-figure figure ⌝ }
-{
-    1 <= figure && figure <= 16
-}
-
-/// Whether a figure may have this value.
-pub fn is_value(value: i32) -> bool
-    ensures { λ r. ⌜ r ≡ is-value value ⌝ }
-{
-    -1_000_000_000 <= value && value <= 1_000_000_000
-}
 
 fn kind_in_range(kind: Kind) -> bool
     ensures { λ r. ⌜ r ≡ kind-in-range kind ⌝ }

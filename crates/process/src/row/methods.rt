@@ -4,6 +4,8 @@ ghost use mathlib.Core.List.{[], _∷_, _++_};
 ghost use Prim.Native.Nat.{_≤_};
 ghost use lib.Dec.{ltb};
 ghost use lib.ListN.{length};
+ghost use Rattle.std.specs.Finite.{nth};
+ghost use Rattle.std.specs.Holes.{removed};
 ghost use Rattle.process.specs.Rows.{items};
 use super::Row;
 
@@ -45,5 +47,20 @@ impl<T: Copy, const N: usize> Row<T, N> {
         self.memory[self.count] = item;
         self.count += 1;
         true
+    }
+    /// Takes out the item at an index and closes the gap. `None`, and no change, where no item stands there.
+    pub fn remove(&mut self, index: usize) -> Option<T>
+        ensures told { λ r. ⌜ r ≡ nth (items (now (self .entry))) index ⌝ }
+        ensures after { λ _. ⌜ items (now (self .exit)) ≡ removed (items (now (self .entry))) index ⌝ }
+    {
+        if index >= self.count {
+            return None;
+        }
+        let item = self.memory[index];
+        for i in index + 1..self.count {
+            self.memory[i - 1] = self.memory[i];
+        }
+        self.count -= 1;
+        Some(item)
     }
 }

@@ -1,0 +1,5 @@
+pub mod Answers
+pub mod Entries
+pub mod OrderFiles
+pub mod Piles
+pub mod Waits
