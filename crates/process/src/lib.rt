@@ -3,3 +3,4 @@ pub mod draft;
 pub mod flow;
 pub mod node;
 pub mod row;
+pub mod sets;
