@@ -24,12 +24,16 @@ row table (suc k) = at-place table k
 abbrev pub Sources : List Flow → List FlowSet → Type 0
 Sources flows table = (e f : ℕ) → Is-flow flows e → Decides (has (row table e) f) (Reaches flows (target flows e) f e)
 
--- The set of each node is what `links` gives.
+-- The set of each number is what `links` gives.
 abbrev pub By-node : (ℕ → FlowSet) → List FlowSet → Type 0
-By-node links table = (n : ℕ) → 1 ≤ n → n ≤ 40 → row table n ≡ links n
+By-node links table = (n : ℕ) → row table n ≡ links n
 
 -- All tables are right for the flows.
 pub record Tables (flows : List Flow) (sources inbound outgoing : List FlowSet) : Type 0 where
   pub reach : Sources flows sources
   pub enter : By-node (entering flows) inbound
   pub leave : By-node (leaving flows) outgoing
+
+-- The set of some flow of `ends` up to n has f.
+abbrev pub Leads-to : List FlowSet → FlowSet → ℕ → ℕ → Type 0
+Leads-to table ends n f = (e : ℕ) × (1 ≤ e) × (e ≤ n) × (has ends e ≡ true) × (has (row table e) f ≡ true)

@@ -1,3 +1,4 @@
+pub mod Bounds
 pub mod Formed
 pub mod Membership
 pub mod Ordered

@@ -1,5 +1,4 @@
 ghost use mathlib.Core.Path.{_≡_};
-ghost use mathlib.Core.Bool.{true};
 ghost use Prim.Native.Nat.{ℕ, _≤_};
 ghost use lib.ListN.{length};
 ghost use Rattle.std.specs.Orderings.{Decides};
@@ -7,7 +6,7 @@ ghost use Rattle.process.specs.Sets.{has};
 ghost use Rattle.paths.specs.Paths.{Inbound, Outgoing};
 ghost use Rattle.paths.specs.Links.{entering, leaving};
 ghost use Rattle.paths.specs.Routings.{model-of, flows-of, sources-of};
-ghost use Rattle.paths.specs.Tables.{row, By-node};
+ghost use Rattle.paths.specs.Tables.{row, Leads-to};
 use super::Routing;
 use crate::links::entering;
 use crate::links::leaving;
@@ -21,7 +20,8 @@ use process::sets::FlowSet;
 // For each node, at its place, the flows that enter it.
 fn inbound_table(flows: &[Flow]) -> [FlowSet; MOST_NODES]
     requires { ⌜ length (now flows) ≤ 64 ⌝ }
-    ensures { λ r. ⌜ By-node (entering (now (flows .entry))) r ⌝ }
+    ensures value { λ r. ⌜ ((n : ℕ) → 1 ≤ n → n ≤ 40 → row r n ≡ entering (now (flows .entry)) n) ⌝ }
+    ensures long { λ r. ⌜ length r ≡ 40 ⌝ }
 {
     let mut table = [FlowSet::empty(); MOST_NODES];
     for place in 0..MOST_NODES {
@@ -33,7 +33,8 @@ fn inbound_table(flows: &[Flow]) -> [FlowSet; MOST_NODES]
 // For each node, at its place, the flows that leave it.
 fn outgoing_table(flows: &[Flow]) -> [FlowSet; MOST_NODES]
     requires { ⌜ length (now flows) ≤ 64 ⌝ }
-    ensures { λ r. ⌜ By-node (leaving (now (flows .entry))) r ⌝ }
+    ensures value { λ r. ⌜ ((n : ℕ) → 1 ≤ n → n ≤ 40 → row r n ≡ leaving (now (flows .entry)) n) ⌝ }
+    ensures long { λ r. ⌜ length r ≡ 40 ⌝ }
 {
     let mut table = [FlowSet::empty(); MOST_NODES];
     for place in 0..MOST_NODES {
@@ -93,7 +94,7 @@ impl Routing {
 
     /// The flows from which some path ends in a flow of `ends` that avoids the node that this flow enters.
     pub(crate) fn leading_to(&self, ends: FlowSet) -> FlowSet
-        ensures { λ r. ⌜ ((f : ℕ) → Decides (has r f) ((e : ℕ) × (1 ≤ e) × (e ≤ 64) × (has ends e ≡ true) × (has (row (sources-of (now (self .entry))) e) f ≡ true))) ⌝ }
+        ensures { λ r. ⌜ ((f : ℕ) → Decides (has r f) (Leads-to (sources-of (now (self .entry))) ends 64 f)) ⌝ }
     {
         let mut found = FlowSet::empty();
         for place in 0..MOST_FLOWS {
