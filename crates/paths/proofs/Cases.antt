@@ -124,7 +124,6 @@ unfoldable computes : Unit {0}
 unfolding held gathered table-of far level grown comes-after leaders entering chosen source target has just joined shared without no-flows is-none these tally process-7 process-8
 computes = tt
 
-
 pub worked-cases : Worked-cases
 unfolding computes
 worked-cases =

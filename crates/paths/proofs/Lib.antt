@@ -8,3 +8,5 @@ pub mod Lookups
 pub mod Nodes
 pub mod Holding
 pub mod Cases
+pub mod Reasons
+pub mod Trails

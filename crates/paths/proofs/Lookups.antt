@@ -36,3 +36,11 @@ module _ (P : ℕ → FlowSet → Type 0) (table : List FlowSet) (i : ℕ) (s : 
       ⊎-elim (λ e. subst (λ (m : ℕ). P m (row (set table i s) m)) (sym e) (subst (P (i + 1)) (sym (row-here table i s h)) here))
       (λ ne. subst (P n) (sym (row-other table i n s ne)) (below n low (omega arith)))
       (cases-eq n (i + 1))
+
+-- the same of places
+pub place-more : (table : List FlowSet) (i : ℕ) (s : FlowSet) (f : ℕ → FlowSet) → i < length table
+    → ((j : ℕ) → j < i → at-place table j ≡ f j) → s ≡ f i → (j : ℕ) → j < i + 1 → at-place (set table i s) j ≡ f j
+place-more table i s f within below here j l =
+    ⊎-elim (λ q. subst (λ (m : ℕ). at-place (set table i s) m ≡ f m) (sym q) (getD-set-same table i s (record { bits = 0 }) within ∙ here))
+    (λ ne. getD-set-other table i j s (record { bits = 0 }) ne ∙ below j (omega arith))
+    (cases-eq j i)

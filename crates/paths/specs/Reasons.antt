@@ -1,12 +1,21 @@
 -- What `why` answers, and what it leaves in the list.
 use mathlib.Core.Path.{_≡_}
+use mathlib.Core.Bool.{false}
 use mathlib.Core.List.{List}
-use Prim.Native.Nat.{ℕ, _≤_}
+use Prim.Native.Nat.{ℕ, _≤_, _<_}
 use lib.ListN.{take, drop}
 use Rattle.process.specs.declared.flow.Flow.{Flow}
 use Rattle.process.specs.declared.sets.FlowSet.{FlowSet}
+use Rattle.process.specs.Sets.{has}
 use Rattle.paths.specs.declared.reason.Reason.{Reason}
-use Rattle.paths.specs.Paths.{Holds-back, Why}
+use Rattle.paths.specs.Paths.{Inbound, Reaches, Holds-back, Why}
+
+-- The flow e is the lowest empty inbound flow of g that f reaches.
+pub record Lowest-end (flows : List Flow) (tokens : FlowSet) (g f e : ℕ) : Type 0 where
+  pub inbound : Inbound flows g e
+  pub empty : has tokens e ≡ false
+  pub reached : Reaches flows g f e
+  pub lowest : (k : ℕ) → k < e → Inbound flows g k → has tokens k ≡ false → Reaches flows g f k → ⊥
 
 -- A reason was found: the list begins with its path, and the places behind are as before.
 pub record Explains (flows : List Flow) (tokens : FlowSet) (g : ℕ) (before after : List ℕ) (w : Reason) : Type 0 where

@@ -206,7 +206,6 @@ ones-tally (suc n) b h =
     shifted b zero h l = absurd (not-suc-le-zero h)
     shifted b (suc k) h l = half-has b k
 
-
 -- ---- a set of 64 bits
 
 -- the bit that stands for a flow

@@ -154,5 +154,4 @@ impl FlowSet {
 /// What the operations do, by membership.
 pub fn set_laws_hold()
     ensures { λ _. ⌜ Set-laws ⌝ }
-{
-}
+{}

@@ -1,10 +1,11 @@
 ghost use mathlib.Core.Path.{_≡_};
+ghost use mathlib.Core.Bool.{_&&_};
 ghost use Prim.Native.Nat.{ℕ, _≤_};
 ghost use lib.ListN.{length};
 ghost use Rattle.std.specs.Orderings.{Decides};
 ghost use Rattle.process.specs.Sets.{has};
 ghost use Rattle.paths.specs.Paths.{Inbound, Outgoing};
-ghost use Rattle.paths.specs.Links.{entering, leaving};
+ghost use Rattle.paths.specs.Links.{chosen, entering, leaving};
 ghost use Rattle.paths.specs.Routings.{model-of, flows-of, sources-of};
 ghost use Rattle.paths.specs.Tables.{row, Leads-to};
 use super::Routing;
@@ -100,6 +101,20 @@ impl Routing {
         for place in 0..MOST_FLOWS {
             if ends.contains(place as u8 + 1) {
                 found = found.union(self.sources[place]);
+            }
+        }
+        found
+    }
+
+    /// The flows of `ends` in which some path from the flow ends that avoids the node that the end enters.
+    pub(crate) fn reached_from(&self, flow: u8, ends: FlowSet) -> FlowSet
+        ensures { λ r. ⌜ r ≡ chosen (λ e. has ends e && has (row (sources-of (now (self .entry))) e) flow) 64 ⌝ }
+    {
+        let mut found = FlowSet::empty();
+        for place in 0..MOST_FLOWS {
+            let end = place as u8 + 1;
+            if ends.contains(end) && self.sources[place].contains(flow) {
+                found = found.insert(end);
             }
         }
         found

@@ -25,5 +25,5 @@ returns c =
     let whole : number - 0 ≡ number = omega arith in
     let told = c .of .ensures ∙ ap (λ (k : ℕ). these (take k (c .reach .last .found))) whole in
     λ f.
-        subst (λ (g : ℕ). Decides (has (c .of .result) f) (Reaches flows g f end)) entered
-        (found-decides flows (c .pre .few) gateway end (c .pre .flow) (take number (c .reach .last .found)) (c .of .result) (c .in-Ok .ensures tt .reached) told f)
+    subst (λ (g : ℕ). Decides (has (c .of .result) f) (Reaches flows g f end)) entered
+    (found-decides flows (c .pre .few) gateway end (c .pre .flow) (take number (c .reach .last .found)) (c .of .result) (c .in-Ok .ensures tt .reached) told f)

@@ -15,5 +15,5 @@ returns c =
     let r = c .args .self .now in
     let n = c .args .node in
     λ e.
-        subst (λ (s : FlowSet). Decides (has s e) (Inbound (flows-of r) n e)) (sym (c .of-node .ensures ∙ tables-right r .enter n))
-        (entering-decides (flows-of r) (flows-few (model-of r)) n e)
+    subst (λ (s : FlowSet). Decides (has s e) (Inbound (flows-of r) n e)) (sym (c .of-node .ensures ∙ tables-right r .enter n))
+    (entering-decides (flows-of r) (flows-few (model-of r)) n e)

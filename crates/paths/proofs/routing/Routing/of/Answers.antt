@@ -13,9 +13,11 @@ ghost-result c =
     let m = c .args .model in
     let same = c .flows-flows .ensures .value in
     let inbound = c .inbound-table-inbound in
-    let outgoing = c .outgoing-table-outgoing in
-    (∣ record {
-      reach = subst (λ (fs : List Flow). Sources fs (c .sources-sources .result)) same (c .sources-sources .ensures);
-      enter = entering-everywhere m (inbound .result) (inbound .ensures .long) (λ n low high. inbound .ensures .value n low high ∙ ap (λ (fs : List Flow). entering fs n) same);
-      leave = leaving-everywhere m (outgoing .result) (outgoing .ensures .long) (λ n low high. outgoing .ensures .value n low high ∙ ap (λ (fs : List Flow). leaving fs n) same);
-    } ∣₁, tt)
+    let outgoing = c .outgoing-table-outgoing in (
+      ∣ record {
+        reach = subst (λ (fs : List Flow). Sources fs (c .sources-sources .result)) same (c .sources-sources .ensures);
+        enter = entering-everywhere m (inbound .result) (inbound .ensures .long) (λ n low high. inbound .ensures .value n low high ∙ ap (λ (fs : List Flow). entering fs n) same);
+        leave = leaving-everywhere m (outgoing .result) (outgoing .ensures .long) (λ n low high. outgoing .ensures .value n low high ∙ ap (λ (fs : List Flow). leaving fs n) same);
+      } ∣₁,
+      tt,
+    )

@@ -15,5 +15,5 @@ returns c =
     let r = c .args .self .now in
     let n = c .args .node in
     λ f.
-        subst (λ (s : FlowSet). Decides (has s f) (Outgoing (flows-of r) n f)) (sym (c .of-node .ensures ∙ tables-right r .leave n))
-        (leaving-decides (flows-of r) (flows-few (model-of r)) n f)
+    subst (λ (s : FlowSet). Decides (has s f) (Outgoing (flows-of r) n f)) (sym (c .of-node .ensures ∙ tables-right r .leave n))
+    (leaving-decides (flows-of r) (flows-few (model-of r)) n f)
