@@ -8,7 +8,6 @@ use native.Mathlib.Omega.{arith}
 use lib.Dec.{eqb, leb}
 use lib.ListN.{length, getD, drop}
 use borrow.Author.Tests.{eq-eqb, ne-eqb}
-use Rattle.std.specs.shelf.Maps.{nth}
 use Rattle.std.proofs.shelf.Lists.{drop-more, at-drop-more}
 use Rattle.std.proofs.shelf.Tests.{cases-lt, and-parts, leb-true, eqb-true, or-cases, or-left, or-right, both-ways, false≢true}
 use Rattle.std.specs.Orderings.{Decides}
@@ -46,10 +45,6 @@ module _ (fs : List Flow) (i n : ℕ) (inside : i < length fs) where
   pub leads-not : (getD fs i no-flow .from ≡ n → ⊥) → successors (drop i fs) n ≡ successors (drop (i + 1) fs) n
   leads-not e = split false (ne-eqb (getD fs i no-flow .from) n e)
 
-pub nth-next : (x : ℕ) (xs : List ℕ) (n : ℕ) → (n ≡ 0 → ⊥) → nth (x ∷ xs) n ≡ nth xs (n - 1)
-nth-next x xs zero h = absurd (h refl)
-nth-next x xs (suc n) h = let e : n ≡ suc n - 1 = omega arith in ap (λ k. nth xs k) e
-
 module _ (ks : List Kind) (i : ℕ) (inv : start-of ks ≡ i + start-of (drop i ks)) where
   pub start-here : (b : Bool) → i < length ks → b ≡ is-start (getD ks i Start) → start-of ks ≡ i + cond b 1 (suc (start-of (drop (i + 1) ks)))
   start-here b inside e =
@@ -70,16 +65,16 @@ member-contains xs n r some =
     same-from-decides r (member xs n) (λ t. holds-from-has xs n (has .0 t), λ h. has .1 (has-from-holds xs n h)) (member-decides xs n)
 
 -- the numbers 1 to n
-numbers : ℕ → List ℕ
+pub numbers : ℕ → List ℕ
 numbers zero = []
 numbers (suc k) = suc k ∷ numbers k
 
-numbers-length : (n : ℕ) → length (numbers n) ≡ n
+pub numbers-length : (n : ℕ) → length (numbers n) ≡ n
 unfolding numbers
 numbers-length zero = refl
 numbers-length (suc k) = ap suc (numbers-length k)
 
-numbers-hold : (n k : ℕ) → 1 ≤ k → k ≤ n → Holds (numbers n) k
+pub numbers-hold : (n k : ℕ) → 1 ≤ k → k ≤ n → Holds (numbers n) k
 unfolding numbers
 numbers-hold zero k low high = absurd (omega arith)
 numbers-hold (suc n) k low high = ⊎-elim (λ lt. inr (numbers-hold n k low (omega arith))) (λ ge. inl (omega arith)) (cases-lt k (suc n))

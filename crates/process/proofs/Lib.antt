@@ -1,2 +1,5 @@
+pub mod Bounds
 pub mod Formed
 pub mod Gaps
+pub mod Membership
+pub mod Ordered

@@ -1,3 +1,4 @@
 pub mod Drafts
 pub mod Processes
 pub mod Rows
+pub mod Sets

@@ -4,3 +4,4 @@ pub mod flow;
 pub mod node;
 pub mod ranges;
 pub mod row;
+pub mod sets;

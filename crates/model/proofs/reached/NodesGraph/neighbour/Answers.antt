@@ -6,7 +6,8 @@ use Rattle.std.specs.shelf.Maps.{nth}
 use Rattle.std.proofs.shelf.Lists.{at-drop-all}
 use Rattle.model.specs.Rules.{no-flow}
 use Rattle.model.specs.Sound.{successors}
-use Rattle.model.proofs.Reaching.{leads, leads-not, nth-next}
+use Rattle.process.proofs.Ordered.{nth-next}
+use Rattle.model.proofs.Reaching.{leads, leads-not}
 use Rattle.model.proofs.reached.NodesGraph.neighbour.Needs as need
 use Rattle.model.proofs.reached.NodesGraph.neighbour.Needs.{then-flow-node·else-before-eq0, else-flow-node}
 

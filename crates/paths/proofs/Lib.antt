@@ -1,0 +1,12 @@
+pub mod Chosen
+pub mod Walks
+pub mod Backwards
+pub mod Counts
+pub mod Distance
+pub mod Known
+pub mod Lookups
+pub mod Nodes
+pub mod Holding
+pub mod Cases
+pub mod Reasons
+pub mod Trails
