@@ -32,7 +32,7 @@ pub struct Case<'a> {
 }
 
 /// The model of a text with its tables.
-pub fn routing_of(text: &[u8]) -> Routing {
+fn routing_of(text: &[u8]) -> Routing {
     let mut place = Model::new();
     let _ = read_model(&mut place, text);
     Routing::of(place)
@@ -64,7 +64,7 @@ fn same_reason(routing: &Routing, case: Case<'_>) -> bool {
 }
 
 /// The first case, from 1, of which the calls say something else, or 0.
-pub fn first_wrong(routing: &Routing, cases: &[Case<'_>]) -> usize {
+fn first_wrong(routing: &Routing, cases: &[Case<'_>]) -> usize {
     for (i, case) in cases.iter().enumerate() {
         let tokens = FlowSet::of(case.tokens);
         if path_rule(routing, tokens, case.gateway) != case.rule
@@ -78,7 +78,7 @@ pub fn first_wrong(routing: &Routing, cases: &[Case<'_>]) -> usize {
 }
 
 /// A chain of 40 nodes by 39 flows, where 25 flows more lead beside those from node 2 to node 27.
-pub fn long_chain() -> Routing {
+fn long_chain() -> Routing {
     let Ok(mut draft) = Draft::new(0, 10) else {
         return Routing::of(Model::new());
     };

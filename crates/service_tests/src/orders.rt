@@ -2,7 +2,7 @@
 use service::order_file::OrderFile;
 
 /// The number, layer and place of the fault of an order text; all 0 where it is accepted.
-pub fn verdict(text: &[u8]) -> (u8, u8, usize) {
+fn verdict(text: &[u8]) -> (u8, u8, usize) {
     match OrderFile::over(text).fault() {
         None => (0, 0, 0),
         Some(fault) => {
