@@ -1,9 +1,9 @@
-//! Runs a count: reads `model.txt` and `order.txt` in the folder where it is started, and prints the process, each step,
-//! why the run stopped, and why each gateway waits; or why a text is refused.
+//! Reads `model.txt` and `order.txt` in the folder where it is started, and tells the process or why a text is refused.
+#![tactic(auto)]
+
 ghost use Rattle.console.specs.Loading.{ModelLoaded, OrderLoaded, Loaded};
 
 mod files;
-mod telling;
 
 use fault::console::ConsoleFault;
 use files::read_text;
@@ -11,13 +11,12 @@ use model::model::Model;
 use reading::model::read_model;
 use service::order_file::OrderFile;
 use std::io;
-use telling::{tell, tell_refusal};
 
 // What the console works on.
 #[derive(Drop)]
-pub struct Input {
-    pub model: Model,
-    pub order: OrderFile,
+struct Input {
+    model: Model,
+    order: OrderFile,
 }
 
 // The model that a text describes, or why it is refused.
@@ -53,7 +52,13 @@ fn main(rt: HostRuntime) -> io::Result<()> {
     let model_text = read_text(&rt, "model.txt")?;
     let order_text = read_text(&rt, "order.txt")?;
     match load(model_text.as_slice(), order_text.as_slice()) {
-        Ok(input) => tell(&rt, input),
-        Err(fault) => tell_refusal(&rt, fault.record()),
+        Ok(input) => println!(rt; "process {}", input.model.number()),
+        Err(fault) => {
+            let record = fault.record();
+            println!(rt;
+                "refused {} layer {} place {}",
+                record.number, record.layer, record.place
+            )
+        }
     }
 }

@@ -1,4 +1,6 @@
 //! Counts: set up from a model, begun, stepped and run, with a journal that the caller lends and answers from any service.
+#![tactic(auto)]
+
 pub mod counts;
 pub mod line;
 mod movement;

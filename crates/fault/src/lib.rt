@@ -2,6 +2,8 @@
 //!
 //! A fault of a lower layer stands inside the fault of the layer above it. `From` turns the one into the other,
 //! so `?` carries it on, and its record comes out whole.
+#![tactic(auto)]
+
 pub mod console;
 pub mod count;
 pub mod graph;

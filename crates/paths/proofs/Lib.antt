@@ -7,5 +7,6 @@ pub mod Known
 pub mod Lookups
 pub mod Nodes
 pub mod Holding
+pub mod Cases
 pub mod Reasons
 pub mod Trails

@@ -4,3 +4,4 @@ pub mod Tables
 pub mod Levels
 pub mod Reasons
 pub mod Routings
+pub mod Worked

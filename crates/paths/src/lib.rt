@@ -1,7 +1,10 @@
 //! The path rule of inclusive gateways: which flows hold a gateway back, and why.
+#![tactic(auto)]
+
 mod levels;
 mod links;
 mod reach;
 pub mod reason;
 pub mod routing;
 pub mod rule;
+pub mod worked;

@@ -1,4 +1,6 @@
 //! Examples of the path rule: who holds a gateway back, and why.
+#![tactic(auto)]
+
 use model::model::Model;
 use paths::reason::why;
 use paths::routing::Routing;

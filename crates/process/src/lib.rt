@@ -1,4 +1,6 @@
 //! What a process is made of: nodes, sequence flows and their conditions.
+#![tactic(auto)]
+
 pub mod draft;
 pub mod flow;
 pub mod node;

@@ -1,4 +1,5 @@
 //! Examples of model texts: accepted ones, and each fault with its place.
+#![tactic(auto)]
 
 #[cfg(test)]
 mod tests {

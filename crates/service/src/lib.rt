@@ -1,4 +1,6 @@
 //! Where the answers to tasks come from: what every service promises, the tray that officers fill, and the order file.
+#![tactic(auto)]
+
 pub mod answer;
 pub mod order_file;
 mod pile;

@@ -1,4 +1,5 @@
 //! Examples of what the crate `text` reads and what it refuses.
+#![tactic(auto)]
 
 #[cfg(test)]
 mod tests {
