@@ -1,9 +1,8 @@
 -- What stands in a list, and lists in which no place stands twice. Crates that use the search build on these lemmas.
-use Rattle.std.proofs.Common.{◌≡◌, ℕ, zero, suc, ◌-◌, ◌<◌, ◌≤◌, Bool, true, false, eqb, ◌⊎◌, List, [], ◌∷◌, ◌++◌, length, get_or, take, Decides, sym, refl, ap, subst, inl, inr, ⊎_elim, suc-le-suc, zero-le, le_of_suc-le-suc, not-suc-le-zero, arith, length-append}
-use Rattle.std.specs.List.{IsAnyAnswer, ContainsAt as Has}
-use Rattle.std.proofs.lemmas.List.Elements.{contains_decides}
+use Rattle.std.proofs.Common.{◌≡◌, ℕ, zero, suc, ◌-◌, ◌<◌, ◌≤◌, Bool, true, false, eqb, ◌⊎◌, List, [], ◌∷◌, ◌++◌, length, get_or, take, Decides, sym, refl, ◌∙◌, ap, subst, inl, inr, ⊎_elim, suc-le-suc, zero-le, le_of_suc-le-suc, not-suc-le-zero, arith, length-append}
+use Rattle.std.specs.List.{list_any, ContainsAt as Has}
+use Rattle.std.proofs.lemmas.Bool.{or_cases, or_left, or_right, false≢true}
 use Rattle.graph.specs.Reach.{Holds, Distinct, Reached, MoreThan}
-use Rattle.std.proofs.lemmas.Bool.Decides.{Decides-eqb}
 
 module _ {P : Type 0} where
   -- what stands in one of two lists stands in both put together, and the other way round
@@ -44,16 +43,20 @@ module _ {P : Type 0} where
   holds-getD (x ∷ xs) (suc k) d l = inr (holds-getD xs k d (le_of_suc-le-suc l))
 
   -- where `==` is sameness, `contains` on the first n of a list answers whether the place stands there
-  some-lawful : (E : P → Bool → Type 0) (xs : List P) (p : P) (r : Bool) → ((q : P) (b : Bool) → E q b → Decides b (q ≡ p)) → IsAnyAnswer E xs r → IsAnyAnswer (λ q b. Decides b (q ≡ p)) xs r
-  some-lawful E xs p true law (k, l, at) = (k, l, λ d. law (get_or xs k d) true (at d))
-  some-lawful E xs p false law every = λ k d low high. law (get_or xs k d) false (every k d low high)
+  holds-decides : (eq : P → Bool) (p : P) → ((q : P) → Decides (eq q) (q ≡ p)) → (xs : List P) → Decides (list_any eq xs) (Holds xs p)
+  holds-decides eq p law [] = (λ e. absurd (false≢true e), λ h. absurd h)
+  holds-decides eq p law (x ∷ xs) =
+      let rest = holds-decides eq p law xs in
+      (
+        λ t. ⊎_elim (λ e. inl ((law x).0 e)) (λ e. inr (rest.0 e)) (or_cases (eq x) (list_any eq xs) t),
+        ⊎_elim (λ e. or_left (eq x) (list_any eq xs) ((law x).1 e)) (λ h. or_right (eq x) (list_any eq xs) (rest.1 h)),
+      )
 
-  pub holds-from-contains : (E : P → Bool → Type 0) (xs : List P) (n : ℕ) (p : P) (r : Bool) → ((q : P) (b : Bool) → E q b → Decides b (q ≡ p)) → IsAnyAnswer E (take (n - 0) xs) r → Decides r (Holds (take n xs) p)
-  holds-from-contains E xs n p r law some =
+  pub holds-from-contains : (eq : P → Bool) (xs : List P) (n : ℕ) (p : P) (r : Bool) → ((q : P) → Decides (eq q) (q ≡ p)) → r ≡ list_any eq (take (n - 0) xs) → Decides r (Holds (take n xs) p)
+  holds-from-contains eq xs n p r law is =
       let e : n - 0 ≡ n = omega arith in
-      let same = subst (λ k. IsAnyAnswer E (take k xs) r) e some in
-      let has = contains_decides eqb Decides-eqb (take n xs) p r (some-lawful E (take n xs) p r law same) in
-      (λ t. holds-from-has (take n xs) p (has.0 t), λ h. has.1 (has-from-holds (take n xs) p h))
+      let same = is ∙ ap (λ k. list_any eq (take k xs)) e in
+      subst (λ b. Decides b (Holds (take n xs) p)) (sym same) (holds-decides eq p law (take n xs))
 
   -- a place that does not stand in the list can be put at its end
   pub distinct_push : (xs : List P) (p : P) → Distinct xs → (Holds xs p → ⊥) → Distinct (xs ++ p ∷ [])

@@ -76,8 +76,8 @@ fn add_neighbours<G: Graph>(
     requires ready { Ready limit found.old count (entries queue.old) }
     requires room { limit ≤ capacity queue.old }
     ensures cases { MatchResult result
-        (λ n. Added limit (next graph.now place) found.old count (entries queue.old) found.new n (entries queue.new))
-        (λ e. (e ≡ GraphFault.TooMany) × Overflows limit (next graph.now place) found.old count) }
+        (λ n. Added limit (G.next graph.now place) found.old count (entries queue.old) found.new n (entries queue.new))
+        (λ e. (e ≡ GraphFault.TooMany) × Overflows limit (G.next graph.now place) found.old count) }
     ensures room { capacity queue.new ≡ capacity queue.old }
 {
     let mut total = count;
@@ -102,8 +102,8 @@ pub fn reach<G: Graph>(
     work: &mut [G::Place],
 ) -> Result<usize, GraphFault>
     ensures { MatchResult result
-        (Found (next graph.now) from.now (min (length found.old) (length work.old)) found.old found.new)
-        (λ e. (e ≡ GraphFault.TooMany) × MoreThan (next graph.now) from.now (min (length found.old) (length work.old))) }
+        (Found (G.next graph.now) from.now (min (length found.old) (length work.old)) found.old found.new)
+        (λ e. (e ≡ GraphFault.TooMany) × MoreThan (G.next graph.now) from.now (min (length found.old) (length work.old))) }
 {
     let limit = found.len().min(work.len());
     let mut queue = WorkList::new(work);

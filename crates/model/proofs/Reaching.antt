@@ -1,14 +1,12 @@
 -- The nodes next to a node, and those that can be reached.
-use Rattle.std.proofs.Common.{◌≡◌, ℕ, zero, suc, ◌+◌, ◌-◌, ◌<◌, ◌≤◌, Bool, true, false, cond, ◌&&◌, eqb, leb, ◌⊎◌, List, [], ◌∷◌, length, get_or, drop, Ok, Err, Decides, Result, sym, refl, ap, ◌∙◌, subst, inl, inr, ⊎_elim, arith, eq-eqb, ne_eqb}
+use Rattle.std.proofs.Common.{◌≡◌, ℕ, zero, suc, ◌+◌, ◌-◌, ◌<◌, ◌≤◌, Bool, true, false, cond, ◌&&◌, ◌||◌, eqb, leb, ◌⊎◌, List, [], ◌∷◌, length, get_or, drop, Ok, Err, Decides, Result, sym, refl, ap, ◌∙◌, subst, inl, inr, ⊎_elim, arith, eq-eqb, ne_eqb}
 use Rattle.std.proofs.lemmas.List.{drop_more, at_drop_more}
 use Rattle.std.proofs.lemmas.Bool.{cases_lt, and_parts, leb-true, eqb-true, or_cases, or_left, or_right, both_ways, false≢true}
 use Rattle.fault.specs.declared.model.ModelFault.{ModelFault}
 use Rattle.fault.specs.declared.model.ModelFault.TheVariants.{NotReached}
 use Rattle.graph.specs.Reach.{Holds, Reached, start, step, AllReached, MoreThan}
 use Rattle.graph.proofs.Holding.{not_more, holds-from-has, has-from-holds}
-use Rattle.std.specs.List.{IsAnyAnswer}
-use Rattle.std.proofs.lemmas.List.Elements.{contains_decides}
-use Rattle.std.proofs.lemmas.Bool.Decides.{same_from_decides, Decides-eqb}
+use Rattle.std.specs.List.{list_any}
 use Rattle.process.specs.declared.flow.Flow.{Flow}
 use Rattle.process.specs.declared.node.Kind.{Kind}
 use Rattle.process.specs.declared.node.Kind.TheVariants.{Start}
@@ -48,10 +46,9 @@ member-decides (x ∷ xs) n =
     )
 
 -- what `contains` answers
-pub member-contains : (xs : List ℕ) (n : ℕ) (r : Bool) → IsAnyAnswer (λ q b. Decides b (q ≡ n)) xs r → r ≡ member xs n
-member-contains xs n r some =
-    let has = contains_decides eqb Decides-eqb xs n r some in
-    same_from_decides r (member xs n) (λ t. holds-from-has xs n (has.0 t), λ h. has.1 (has-from-holds xs n h)) (member-decides xs n)
+pub member-any : (xs : List ℕ) (n : ℕ) → list_any (λ y. eqb y n) xs ≡ member xs n
+member-any [] n = refl
+member-any (x ∷ xs) n = ap (λ b. eqb x n || b) (member-any xs n)
 
 -- the numbers 1 to n
 pub numbers : ℕ → List ℕ

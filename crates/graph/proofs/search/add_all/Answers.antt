@@ -13,15 +13,15 @@ add-requires g c = record { ready = ready-after c.requires.ready c.loop-place.in
 
 pub loop-place-preserved : goal.loop-place-preserved
 loop-place-preserved g c = (
-  added_more c.args.places.now c.loop-place.place-index c.place-item.result c.loop-place-test.true c.place-item.is c.loop-place.invariant.0 c.in-ok-total.ensures.cases,
+  added_more c.args.places.now c.loop-place.place-index c.place-item.result c.loop-place-test.true c.place-item.is c.loop-place.invariant.0 c.in_ok-total.ensures.cases,
   c.add.ensures.room ∙ c.loop-place.invariant.1,
   omega arith,
 )
 
-pub returns-in-err-total : goal.returns-in-err-total
-returns-in-err-total g c =
-    let p = err_from_is_err_and c.from-residual.result c.from-residual.ensures.1 in
-    let e = c.in-err-total.ensures.cases in
+pub returns-in_err-total : goal.returns-in_err-total
+returns-in_err-total g c =
+    let p = err_from_is_err_and c.from_residual.result c.from_residual.ensures.1 in
+    let e = c.in_err-total.ensures.cases in
     record {
       cases = rw (p.1, p.2) (e.0, overflows-more c.args.places.now c.loop-place.place-index c.place-item.result c.loop-place-test.true c.place-item.is c.loop-place.invariant.0 e.1);
       room = c.add.ensures.room ∙ c.loop-place.invariant.1;

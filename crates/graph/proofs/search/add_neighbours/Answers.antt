@@ -18,18 +18,18 @@ loop-index-preserved g c =
     let other = c.in-Some.other in
     let inside : c.loop-index.index < length near = omega (arith, c.loop-index-test.true, c.degree-index-end.ensures) in
     let read : other ≡ get_or near c.loop-index.index other = let e = slice_get-get_or near c.loop-index.index other inside in let f = c.in-Some.ensures in cc in (
-      added_more near c.loop-index.index other inside read c.loop-index.invariant.0 c.in-ok-total.ensures.cases,
+      added_more near c.loop-index.index other inside read c.loop-index.invariant.0 c.in_ok-total.ensures.cases,
       c.add.ensures.room ∙ c.loop-index.invariant.1,
     )
 
-pub returns-in-err-total : goal.returns-in-err-total
-returns-in-err-total g c =
+pub returns-in_err-total : goal.returns-in_err-total
+returns-in_err-total g c =
     let near = g.G.Graph.next c.args.graph.now c.args.place in
     let other = c.in-Some.other in
     let inside : c.loop-index.index < length near = omega (arith, c.loop-index-test.true, c.degree-index-end.ensures) in
     let read : other ≡ get_or near c.loop-index.index other = let e = slice_get-get_or near c.loop-index.index other inside in let f = c.in-Some.ensures in cc in
-    let p = err_from_is_err_and c.from-residual.result c.from-residual.ensures.1 in
-    let e = c.in-err-total.ensures.cases in
+    let p = err_from_is_err_and c.from_residual.result c.from_residual.ensures.1 in
+    let e = c.in_err-total.ensures.cases in
     record {
       cases = rw (p.1, p.2) (e.0, overflows-more near c.loop-index.index other inside read c.loop-index.invariant.0 e.1);
       room = c.add.ensures.room ∙ c.loop-index.invariant.1;
@@ -49,4 +49,4 @@ pub unreachable-requires : goal.unreachable-requires
 unreachable-requires g c =
     let near = g.G.Graph.next c.args.graph.now c.args.place in
     let inside : c.loop-index.index < length near = omega (arith, c.loop-index-test.true, c.degree-index-end.ensures) in
-    c.in-default.not-Some (get_or near c.loop-index.index c.args.place) (c.neighbour.ensures ∙ slice_get-get_or near c.loop-index.index c.args.place inside)
+    c.in_default.not-Some (get_or near c.loop-index.index c.args.place) (c.neighbour.ensures ∙ slice_get-get_or near c.loop-index.index c.args.place inside)

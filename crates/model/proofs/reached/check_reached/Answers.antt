@@ -15,7 +15,7 @@ unreachable-requires c =
     let flows = flows_of d in
     let formed = (and_parts (kinds_in_range nodes) (flows_formed nodes flows) (and_parts (is_number d.number) _ d.formed).1).1 in
     let few : length nodes ≤ 40 = omega (arith, ap length c.nodes-nodes.ensures.value, c.nodes-nodes.ensures.few) in
-    searched-few nodes flows formed c.requires _ _ _ c.flows-flows.ensures.value (c.start-of-start.ensures ∙ ap start_of c.nodes-nodes.ensures.value) few c.in-default.ensures.1
+    searched-few nodes flows formed c.requires _ _ _ c.flows-flows.ensures.value (c.start_of-start.ensures ∙ ap start_of c.nodes-nodes.ensures.value) few c.in_default.ensures.1
 
 pub returns : goal.returns
 returns c =
@@ -23,4 +23,4 @@ returns c =
     let number = c.in-Ok.number in
     let whole : number - 0 ≡ number = omega arith in
     let told = c.check.ensures ∙ ap (λ k. checked (member (take k c.reach.new.found)) NotReached (length c.nodes-nodes.result.now)) whole in
-    reached-verdict (nodes_of d) (flows_of d) _ _ _ _ c.flows-flows.ensures.value (c.start-of-start.ensures ∙ ap start_of c.nodes-nodes.ensures.value) (ap length c.nodes-nodes.ensures.value) c.in-Ok.ensures.reached c.check.result told
+    reached-verdict (nodes_of d) (flows_of d) _ _ _ _ c.flows-flows.ensures.value (c.start_of-start.ensures ∙ ap start_of c.nodes-nodes.ensures.value) (ap length c.nodes-nodes.ensures.value) c.in-Ok.ensures.reached c.check.result told

@@ -5,14 +5,14 @@ use Rattle.text.proofs.kinds.classify.Goals as goal
 pub returns-in-Some : goal.returns-in-Some
 returns-in-Some c = record { kind = sym (word-keyword _ _ (sym c.in-Some.ensures)); place = (refl, refl) }
 
-pub returns-then-is-number : goal.returns-then-is-number
-returns-then-is-number c = record { kind = sym (word_number _ (sym c.in-default.ensures) (sym c.if-is-number.ensures)); place = (refl, refl) }
+pub returns-then-is_number : goal.returns-then-is_number
+returns-then-is_number c = record { kind = sym (word_number _ (sym c.in_default.ensures) (sym c.if-is_number.ensures)); place = (refl, refl) }
 
-pub returns-then-is-figure : goal.returns-then-is-figure
-returns-then-is-figure c = record { kind = sym (word-figure _ (sym c.in-default.ensures) (sym c.if-is-number.ensures) (sym c.if-is-figure.ensures)); place = (refl, refl) }
+pub returns-then-is_figure : goal.returns-then-is_figure
+returns-then-is_figure c = record { kind = sym (word-figure _ (sym c.in_default.ensures) (sym c.if-is_number.ensures) (sym c.if-is_figure.ensures)); place = (refl, refl) }
 
-pub returns-in-err-operator : goal.returns-in-err-operator
-returns-in-err-operator c = rw c.from-residual.ensures (record { kind = sym (word-operator _ (sym c.in-default.ensures) (sym c.if-is-number.ensures) (sym c.if-is-figure.ensures) _ (sym c.in-err-operator.ensures)); place = tt })
+pub returns-in_err-operator : goal.returns-in_err-operator
+returns-in_err-operator c = rw c.from_residual.ensures (record { kind = sym (word-operator _ (sym c.in_default.ensures) (sym c.if-is_number.ensures) (sym c.if-is_figure.ensures) _ (sym c.in_err-operator.ensures)); place = tt })
 
 pub returns : goal.returns
-returns c = record { kind = sym (word-operator _ (sym c.in-default.ensures) (sym c.if-is-number.ensures) (sym c.if-is-figure.ensures) _ (sym c.in-ok-operator.ensures)); place = (refl, refl) }
+returns c = record { kind = sym (word-operator _ (sym c.in_default.ensures) (sym c.if-is_number.ensures) (sym c.if-is_figure.ensures) _ (sym c.in_ok-operator.ensures)); place = (refl, refl) }

@@ -6,4 +6,4 @@ use Rattle.text.proofs.numbers.is_figure.Goals as goal
 pub returns-in-118 : goal.returns-in-118
 returns-in-118 c =
     let sign : get_or c.args.word.now 0 0 ≡ 118 = search rules in
-    c.is-digits.ensures ∙ ap some_digits (take_rest c.args.word.now 1) ∙ rw sign refl
+    c.is_digits.ensures ∙ ap some_digits (take_rest c.args.word.now 1) ∙ rw sign refl

@@ -6,4 +6,4 @@ use Rattle.text.proofs.numbers.is_number.Goals as goal
 pub returns-in-45 : goal.returns-in-45
 returns-in-45 c =
     let sign : get_or c.args.word.now 0 0 ≡ 45 = search rules in
-    c.is-digits.ensures ∙ ap some_digits (take_rest c.args.word.now 1) ∙ rw sign refl
+    c.is_digits.ensures ∙ ap some_digits (take_rest c.args.word.now 1) ∙ rw sign refl

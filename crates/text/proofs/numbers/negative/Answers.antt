@@ -4,15 +4,15 @@ use Rattle.text.specs.Numbers.{Writes}
 use Rattle.text.proofs.Writings.{not-both}
 use Rattle.text.proofs.numbers.negative.Goals as goal
 
-pub returns-in-err-n : goal.returns-in-err-n
-returns-in-err-n c = rw c.from-residual.ensures (λ n w. c.in-err-n.ensures (n + 1) w)
+pub returns-in_err-n : goal.returns-in_err-n
+returns-in_err-n c = rw c.from_residual.ensures (λ n w. c.in_err-n.ensures (n + 1) w)
 
 pub returns-then-n-eq0 : goal.returns-then-n-eq0
-returns-then-n-eq0 c = λ n w. not-both _ _ n c.if-n-eq0.true c.in-ok-n.ensures w
+returns-then-n-eq0 c = λ n w. not-both _ _ n c.if-n-eq0.true c.in_ok-n.ensures w
 
 pub returns : goal.returns
 returns c =
-    let w = c.in-ok-n.ensures in
+    let w = c.in_ok-n.ensures in
     let short = w.short in
-    let back : c.in-ok-n.n ≡ c.in-ok-n.n - 1 + 1 = omega arith in
-    (c.in-ok-n.n - 1, omega (arith, ints), subst (Writes c.args.digits.now) back w)
+    let back : c.in_ok-n.n ≡ c.in_ok-n.n - 1 + 1 = omega arith in
+    (c.in_ok-n.n - 1, omega (arith, ints), subst (Writes c.args.digits.now) back w)

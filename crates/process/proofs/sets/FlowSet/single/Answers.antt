@@ -2,8 +2,8 @@ use Rattle.std.proofs.Common.{sym, ◌∙◌}
 use Rattle.process.proofs.Membership.{one_bit, no-bit}
 use Rattle.process.proofs.sets.FlowSet.single.Goals as goal
 
-pub returns-then-not-in-range : goal.returns-then-not-in-range
-returns-then-not-in-range c = c.empty.ensures ∙ no-bit c.args.flow (sym c.in_range.ensures ∙ c.if-not-in-range.true)
+pub returns-then-not-in_range : goal.returns-then-not-in_range
+returns-then-not-in_range c = c.empty.ensures ∙ no-bit c.args.flow (sym c.in_range.ensures ∙ c.if-not-in_range.true)
 
 pub returns : goal.returns
-returns c = let b = one_bit c.args.flow (sym c.in_range.ensures ∙ c.if-not-in-range.false) in λ i. record { bits = b i }
+returns c = let b = one_bit c.args.flow (sym c.in_range.ensures ∙ c.if-not-in_range.false) in λ i. record { bits = b i }

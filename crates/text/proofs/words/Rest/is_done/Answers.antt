@@ -15,4 +15,4 @@ done None r e = not-false r (sym e)
 done (Some x) r e = not-true r (sym e) ∙ sym (some_left (pieces 32 x.now) (pieces-some 32 x.now))
 
 pub returns : goal.returns
-returns c = done c.args.self.now.bytes c.is-none.result c.is-none.ensures
+returns c = done c.args.self.now.bytes c.is_none.result c.is_none.ensures
