@@ -60,7 +60,7 @@ impl Model {
     pub fn kind(&self, node: u8) -> Kind
         ensures { result ≡ kind_at (nodes_of self.now) node }
     {
-        kind_at(self.process.nodes(), node)
+        kind_at(self.nodes(), node)
     }
 
     /// The flows: flow n stands at place n - 1.

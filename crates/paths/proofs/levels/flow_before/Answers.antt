@@ -16,7 +16,7 @@ unreachable-requires c =
     let m = some.0 in
     let both = c.intersection.result in
     let high : m ≤ 64 = omega (arith, some.1.0.1, c.requires.few) in
-    both_ways _ (next-none both 0 c.in-default.ensures m some.1.0.0 high)
+    both_ways _ (next-none both 0 c.in_default.ensures m some.1.0.0 high)
     (before-has flows c.requires.few g c.args.near c.leaders.result both n m c.leaders.ensures c.intersection.ensures
     ∙ and_from _ _ (led flows c.requires.few g m n some.1) some.2)
 

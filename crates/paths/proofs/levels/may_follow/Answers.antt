@@ -6,4 +6,4 @@ use Rattle.paths.proofs.levels.may_follow.Goals as goal
 
 pub returns : goal.returns
 unfolding comes_after
-returns c = ap not (c.is-empty.ensures ∙ ap is_none (c.intersection.ensures ∙ ap (λ (s : FlowSet). shared s c.args.near) c.leaders.ensures))
+returns c = ap not (c.is_empty.ensures ∙ ap is_none (c.intersection.ensures ∙ ap (λ (s : FlowSet). shared s c.args.near) c.leaders.ensures))

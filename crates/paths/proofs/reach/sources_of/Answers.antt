@@ -8,7 +8,7 @@ use Rattle.paths.proofs.Chosen.{target-before}
 use Rattle.paths.proofs.reach.sources_of.Goals as goal
 
 pub unreachable-requires : goal.unreachable-requires
-unreachable-requires c = searched-few c.args.flows.now c.requires.few _ c.args.end c.requires.flow c.in-default.ensures.1
+unreachable-requires c = searched-few c.args.flows.now c.requires.few _ c.args.end c.requires.flow c.in_default.ensures.1
 
 pub returns : goal.returns
 returns c =

@@ -9,12 +9,12 @@ pub unreachable-requires : goal.unreachable-requires
 unreachable-requires c =
     let r = c.args.routing.now in
     some_end (flows_of r) (flows-few (model_of r)) (sources_of r) (tables-right r).reach c.args.tokens c.inbound.result c.args.gateway c.inbound.ensures
-    c.difference-empty.result c.reached-from.result c.args.holder c.difference-empty.ensures c.reached-from.ensures
-    c.requires (next-none c.reached-from.result 0 c.in-default.ensures)
+    c.difference-empty.result c.reached_from.result c.args.holder c.difference-empty.ensures c.reached_from.ensures
+    c.requires (next-none c.reached_from.result 0 c.in_default.ensures)
 
 pub returns : goal.returns
 returns c =
     let r = c.args.routing.now in
     lowest_end (flows_of r) (flows-few (model_of r)) (sources_of r) (tables-right r).reach c.args.tokens c.inbound.result c.args.gateway c.inbound.ensures
-    c.difference-empty.result c.reached-from.result c.args.holder c.difference-empty.ensures c.reached-from.ensures
-    c.in-Some.end (next-some c.reached-from.result 0 c.in-Some.end c.in-Some.ensures)
+    c.difference-empty.result c.reached_from.result c.args.holder c.difference-empty.ensures c.reached_from.ensures
+    c.in-Some.end (next-some c.reached_from.result 0 c.in-Some.end c.in-Some.ensures)

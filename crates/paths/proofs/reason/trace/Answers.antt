@@ -21,8 +21,8 @@ loop-place-init c =
       refl,
     )
 
-pub flow-before-flow-requires : goal.flow-before-flow-requires
-flow-before-flow-requires c =
+pub flow_before-flow-requires : goal.flow_before-flow-requires
+flow_before-flow-requires c =
     let flows = c.args.flows.now in
     let g = c.args.gateway in
     let f = c.args.holder in
@@ -48,18 +48,18 @@ loop-place-preserved c =
     let last = c.args.levels.now.last in
     let at = c.loop-place.place in
     let n = c.loop-place.flow in
-    let m = c.flow-before-flow.result in
+    let m = c.flow_before-flow.result in
     let list = c.loop-place.list in
     let q = written list last (suc (at - 1)) in
     let t = trail-above flows g f e list last at n c.loop-place-test.true c.loop-place.invariant.2 in
     let low : at - 1 ≤ last = omega (arith, c.loop-place.invariant.1) in
     let before : at - 1 < last + 1 = omega (arith, low) in
     let within : last < length list = omega (arith, c.loop-place.invariant.0, c.requires.levels.few) in
-    let in-level = ap (λ (s : FlowSet). has s m) (sym (c.requires.levels.each (at - 1) low)) ∙ c.flow-before-flow.ensures.1 in (
+    let in-level = ap (λ (s : FlowSet). has s m) (sym (c.requires.levels.each (at - 1) low)) ∙ c.flow_before-flow.ensures.1 in (
       simp length-set c.loop-place.invariant.0,
       low,
       subst (Trail flows g f e (at - 1) m) (sym (written-more list last (at - 1) m low within))
-          (trail_more flows c.requires.few g f e c.requires.start (at - 1) n m q t c.flow-before-flow.ensures.0 in-level),
+          (trail_more flows c.requires.few g f e c.requires.start (at - 1) n m q t c.flow_before-flow.ensures.0 in-level),
       drop-set-lt (last + 1) list (at - 1) m before ∙ c.loop-place.invariant.3,
     )
 

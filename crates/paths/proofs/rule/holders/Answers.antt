@@ -12,8 +12,8 @@ pub returns : goal.returns
 returns c =
     let r = c.args.routing.now in
     let lead = λ (s : FlowSet) (t : FlowSet) (f : ℕ). Decides (has s f) (LeadsTo (sources_of r) t 64 f) in
-    let empty = c.leading-to-lead-to-empty in
-    let token = c.leading-to-lead-to-token in
+    let empty = c.leading_to-lead_to_empty in
+    let token = c.leading_to-lead_to_token in
     holders-decide (flows_of r) (flows-few (model_of r)) (sources_of r) (tables-right r).reach c.args.tokens c.inbound-inbound.result c.args.gateway c.inbound-inbound.ensures
     empty.result token.result c.difference-2.result
     (λ f. subst (λ (t : FlowSet). lead empty.result t f) c.difference.ensures (empty.ensures f))

@@ -15,10 +15,10 @@ pub loop-left-preserved : goal.loop-left-preserved
 loop-left-preserved c =
     let read = items c.loop-left.lines in
     let line = c.loop-left.line + 1 in
-    let first = c.cut-at-cut.result.first.now in
-    let more = pieces_in 10 c.cut-at-cut.result.rest in
+    let first = c.cut_at-cut.result.first.now in
+    let more = pieces_in 10 c.cut_at-cut.result.rest in
     let inv = c.loop-left.invariant in
-    let lines : pieces_in 10 c.loop-left.left ≡ first ∷ more = ap (pieces_in 10) c.in-Some.is ∙ c.cut-at-cut.ensures.pieces in
-    let ok : order_line line (words_of first) ≡ Ok c.in-ok-order.order = (λ i. order_line (sym c.new.ensures.line i) (sym c.new.ensures.words i)) ∙ sym c.in-ok-order.ensures in
-    let put = line-put line read (items c.push.new.self) first more c.in-ok-order.order c.push.result ok (omega (arith, ap weight lines, inv.1)) c.push.ensures.told c.push.ensures.after in
-    (put.same ∙ ap (order_lines line read) (sym lines) ∙ inv.0, put.room, omega (arith, inv.2, c.cut-at-cut.ensures.shorter, ap length_left c.in-Some.is))
+    let lines : pieces_in 10 c.loop-left.left ≡ first ∷ more = ap (pieces_in 10) c.in-Some.is ∙ c.cut_at-cut.ensures.pieces in
+    let ok : order_line line (words_of first) ≡ Ok c.in_ok-order.order = (λ i. order_line (sym c.new.ensures.line i) (sym c.new.ensures.words i)) ∙ sym c.in_ok-order.ensures in
+    let put = line-put line read (items c.push.new.self) first more c.in_ok-order.order c.push.result ok (omega (arith, ap weight lines, inv.1)) c.push.ensures.told c.push.ensures.after in
+    (put.same ∙ ap (order_lines line read) (sym lines) ∙ inv.0, put.room, omega (arith, inv.2, c.cut_at-cut.ensures.shorter, ap length_left c.in-Some.is))

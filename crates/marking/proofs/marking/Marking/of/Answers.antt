@@ -1,4 +1,4 @@
 use Rattle.marking.proofs.marking.Marking.of.Goals as goal
 
 pub invariant-of-result : goal.invariant-of-result
-invariant-of-result c = (∣ c.recount-holding.ensures ∣₁, tt)
+invariant-of-result c = record { right = ∣ c.recount-holding.ensures ∣₁ }

@@ -12,18 +12,18 @@ returns-then-len g c =
     let p = c.args.self.now in
     let total = waiting-entries (items p.entries) p.sound in
     record {
-      reply = verdict-full g.row.N (answers_for (items p.entries)) c.args.node c.args.answer c.if-not-is-node-number.ensures c.if-not-in-range.ensures (omega (arith, total, c.len.ensures, c.if-len.true));
+      reply = verdict-full g.row.N (answers_for (items p.entries)) c.args.node c.args.answer c.if-not-is_node_number.ensures c.if-not-in_range.ensures (omega (arith, total, c.len.ensures, c.if-len.true));
       after = refl {a = p};
     }
 
-pub invariant-of-self : goal.invariant-of-self
-invariant-of-self g c =
+pub invariant_of-self : goal.invariant_of-self
+invariant_of-self g c =
     let p = c.args.self.now in
     let es = items p.entries in
     let room : length es < g.row.N = omega (arith, c.len.ensures, c.if-len.false) in
     let push = pushed es (items c.push.new.self) (entry c.args.node c.args.answer) g.row.N c.push.result c.push.ensures.told room c.push.ensures.after in
-    let sound = and_from _ _ (sym c.if-not-is-node-number.ensures) (sym c.if-not-in-range.ensures) in
-    (ap all_sound push ∙ sound-push es (entry c.args.node c.args.answer) p.sound sound, tt)
+    let sound = and_from _ _ (sym c.if-not-is_node_number.ensures) (sym c.if-not-in_range.ensures) in
+    record { sound = ap all_sound push ∙ sound-push es (entry c.args.node c.args.answer) p.sound sound }
 
 pub returns : goal.returns
 returns g c =
@@ -33,6 +33,6 @@ returns g c =
     let room : length es < g.row.N = omega (arith, c.len.ensures, c.if-len.false) in
     let push = pushed es (items c.push.new.self) (entry c.args.node c.args.answer) g.row.N c.push.result c.push.ensures.told room c.push.ensures.after in
     record {
-      reply = verdict-room g.row.N (answers_for es) c.args.node c.args.answer c.if-not-is-node-number.ensures c.if-not-in-range.ensures (omega (arith, total));
+      reply = verdict-room g.row.N (answers_for es) c.args.node c.args.answer c.if-not-is_node_number.ensures c.if-not-in_range.ensures (omega (arith, total));
       after = ap answers_for push ∙ answers_push es c.args.node c.args.answer;
     }
