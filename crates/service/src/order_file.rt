@@ -22,8 +22,8 @@ pub struct OrderFile {
 
 // The answers of the lines, in line order. None is refused: their numbers lie in their ranges, and there is room for all.
 fn pile_of(lines: &[OrderLine]) -> Pile<MOST_LINES>
-    requires lines_value { orders_in_range lines.now ≡ true }
-    requires lines_len_bound { length lines.now ≤ 1489 }
+    requires in_range { orders_in_range lines.now ≡ true }
+    requires few { length lines.now ≤ 1489 }
     ensures { waits_in result ≡ order_waits lines.now }
 {
     let mut pile = Pile::new();

@@ -4,7 +4,7 @@ use Rattle.process.specs.declared.flow.Guard.{Guard}
 use Rattle.process.specs.declared.flow.Guard.TheVariants.{Default}
 use Rattle.choice.proofs.Collected.{collected-none, collected-take, collected-skip, LeavesWith, leaves-here, not-from-here, not-guarded-here, collected-all}
 use Rattle.choice.proofs.choices.default_flows.Goals as goal
-use Rattle.choice.proofs.choices.default_flows.Goals.{then-flows-place+then-is-default, else-flows-place, else-flows-place-via-then-flows-place+else-is-default, else-flows-place-via-else-flows-place}
+use Rattle.choice.proofs.choices.default_flows.Goals.{then-flows-place+then-is_default, else-flows-place, else-flows-place-via-then-flows-place+else-is_default, else-flows-place-via-else-flows-place}
 
 pub loop-place-init : goal.loop-place-init
 loop-place-init c = collected-none (LeavesWith c.args.flows.now c.args.node (λ (g : Guard). g ≡ Default)) c.empty-found.result c.empty-found.ensures
@@ -19,12 +19,12 @@ loop-place-preserved c =
     let G = λ (g : Guard). g ≡ Default in
     let P = LeavesWith flows node G in
     elim c.if-flows-place.branch [
-      | then-flows-place+then-is-default w ↦
-          let taken = leaves-here flows node G i w.if-flows-place.true (w.is_default.ensures.0 w.if-is-default.true) in
+      | then-flows-place+then-is_default w ↦
+          let taken = leaves-here flows node G i w.if-flows-place.true (w.is_default.ensures.0 w.if-is_default.true) in
           collected-take P i old new (omega arith) (w.found-is ∙ w.insert-found.ensures) taken c.loop-place.invariant
       | else-flows-place w ↦
           let skipped : P (i + 1) → ⊥ = elim w.else-flows-place.branch [
-            | else-flows-place-via-then-flows-place+else-is-default v ↦ not-guarded-here flows node G i (λ h. both_ways _ v.if-is-default.false (v.is_default.ensures.1 h))
+            | else-flows-place-via-then-flows-place+else-is_default v ↦ not-guarded-here flows node G i (λ h. both_ways _ v.if-is_default.false (v.is_default.ensures.1 h))
             | else-flows-place-via-else-flows-place v ↦ not-from-here flows node G i v.if-flows-place.false
           ] in
           collected-skip P i old new w.found-is skipped c.loop-place.invariant

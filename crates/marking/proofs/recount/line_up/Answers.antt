@@ -14,4 +14,4 @@ loop-flow-preserved c = (
 )
 
 pub returns : goal.returns
-returns c = lined-all c.args.gateway c.args.tokens c.loop-flow.last c.loop-flow.work c.in-default.ensures c.loop-flow.invariant.0
+returns c = lined-all c.args.gateway c.args.tokens c.loop-flow.last c.loop-flow.work c.in_default.ensures c.loop-flow.invariant.0

@@ -12,7 +12,7 @@ loop-place-preserved c =
     let inv = c.loop-place.invariant in
     let within : c.loop-place.place < length c.loop-place.numbers = omega arith in (
       simp length-set inv.0,
-      number_more (Counted (nodes_of (model_of r)) (flows_of r) c.args.tokens) c.loop-place.numbers c.loop-place.place c.recount-node.result within inv.1 c.recount-node.ensures,
+      number_more (Counted (nodes_of (model_of r)) (flows_of r) c.args.tokens) c.loop-place.numbers c.loop-place.place c.recount_node.result within inv.1 c.recount_node.ensures,
     )
 
 pub returns : goal.returns

@@ -22,7 +22,7 @@ loop-line-preserved c =
     let o = get_or os i (order 0 (pos 0)) in
     let fits : SFits w32 o.value = search rules in
     let same : to_z w32 (of_z w32 o.value) ≡ o.value = to_z-of_z w32 o.value fits in
-    filled_more os c.requires.0 c.requires.1 i (order 0 (pos 0)) c.loop-line-test.true old new c.put.result c.loop-line.invariant
+    filled_more os c.requires.in_range c.requires.few i (order 0 (pos 0)) c.loop-line-test.true old new c.put.result c.loop-line.invariant
     (c.put.ensures.reply ∙ ap (λ z. put_verdict 1489 (waits_in old) o.node (answer z)) same)
     (subst (λ z. Put waits_in old o.node (answer z) c.put.result new) same c.put.ensures.after)
 

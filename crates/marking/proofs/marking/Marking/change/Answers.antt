@@ -1,4 +1,4 @@
 use Rattle.marking.proofs.marking.Marking.change.Goals as goal
 
-pub invariant-of-self : goal.invariant-of-self
-invariant-of-self c = record { right = ∣ c.recount-holding.ensures ∣₁ }
+pub invariant_of-self : goal.invariant_of-self
+invariant_of-self c = record { right = ∣ c.recount-holding.ensures ∣₁ }

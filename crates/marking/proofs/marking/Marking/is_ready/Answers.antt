@@ -12,32 +12,32 @@ returns-in-Parallel c =
     let n = c.args.node in
     let kind = c.kind.ensures ∙ ap (λ (x : Model). kind_at (models.nodes_of x) n) c.model.ensures in
     ready-by-all (nodes_of m) (flows_of m) (tokens_of m) n c.kind.result kind c.inbound-inbound.result c.inbound-inbound.ensures
-    c.is-empty.result c.difference.result c.is-empty.ensures c.difference.ensures c.in-Parallel.is
+    c.is_empty.result c.difference.result c.is_empty.ensures c.difference.ensures c.in-Parallel.is
 
-pub returns-then-not-is-empty : goal.returns-then-not-is-empty
-returns-then-not-is-empty c =
+pub returns-then-not-is_empty : goal.returns-then-not-is_empty
+returns-then-not-is_empty c =
     let m = c.args.self.now in
     let n = c.args.node in
-    let both = c.intersection-coming-in in
+    let both = c.intersection-coming_in in
     let kind = c.kind.ensures ∙ ap (λ (x : Model). kind_at (models.nodes_of x) n) c.model.ensures in
     ready-by-number (nodes_of m) (flows_of m) (tokens_of m) n c.kind.result kind c.inbound-inbound.result c.inbound-inbound.ensures both.result both.ensures
-    c.holding-number.result c.in-Inclusive.is (sym c.if-not-is-empty.ensures) c.holding-number.ensures
+    c.holding_number.result c.in-Inclusive.is (sym c.if-not-is_empty.ensures) c.holding_number.ensures
 
-pub returns-else-not-is-empty : goal.returns-else-not-is-empty
-returns-else-not-is-empty c =
+pub returns-else-not-is_empty : goal.returns-else-not-is_empty
+returns-else-not-is_empty c =
     let m = c.args.self.now in
     let n = c.args.node in
-    let both = c.intersection-coming-in in
+    let both = c.intersection-coming_in in
     let kind = c.kind.ensures ∙ ap (λ (x : Model). kind_at (models.nodes_of x) n) c.model.ensures in
-    let none = sym c.if-not-is-empty.ensures in
+    let none = sym c.if-not-is_empty.ensures in
     waits_for-token (nodes_of m) (flows_of m) (tokens_of m) n c.kind.result kind c.inbound-inbound.result c.inbound-inbound.ensures both.result both.ensures
-    (not c.is-empty-in-Inclusive.result) c.in-Inclusive.is (ap not (c.is-empty-in-Inclusive.ensures ∙ none)) none
+    (not c.is_empty-in-Inclusive.result) c.in-Inclusive.is (ap not (c.is_empty-in-Inclusive.ensures ∙ none)) none
 
 pub returns-in-End : goal.returns-in-End
 returns-in-End c =
     let m = c.args.self.now in
     let n = c.args.node in
-    let both = c.intersection-coming-in in
+    let both = c.intersection-coming_in in
     let kind = c.kind.ensures ∙ ap (λ (x : Model). kind_at (models.nodes_of x) n) c.model.ensures in
     ready-by-token (nodes_of m) (flows_of m) (tokens_of m) n c.kind.result kind c.inbound-inbound.result c.inbound-inbound.ensures both.result both.ensures
-    c.is-empty-in-End.result c.is-empty-in-End.ensures c.in-End.is
+    c.is_empty-in-End.result c.is_empty-in-End.ensures c.in-End.is

@@ -1,4 +1,4 @@
 use Rattle.marking.proofs.marking.Marking.of.Goals as goal
 
-pub invariant-of-result : goal.invariant-of-result
-invariant-of-result c = record { right = ∣ c.recount-holding.ensures ∣₁ }
+pub invariant_of-result : goal.invariant_of-result
+invariant_of-result c = record { right = ∣ c.recount-holding.ensures ∣₁ }

@@ -12,7 +12,7 @@ pub returns-in-Some : goal.returns-in-Some
 returns-in-Some c =
     let m = c.args.self.now in
     let n = c.args.node in
-    let both = c.intersection-coming-in in
+    let both = c.intersection-coming_in in
     let kind = c.kind.ensures ∙ ap (λ (x : Model). kind_at (models.nodes_of x) n) c.model.ensures in
     takes-lowest (nodes_of m) (flows_of m) (flows-few (model_of (routing_of m))) (tokens_of m) n c.kind.result kind c.inbound.result both.result c.inbound.ensures both.ensures
     c.in-Exclusive.is c.in-Some.lowest c.single.result c.in-Some.ensures c.single.ensures
@@ -21,7 +21,7 @@ pub returns-in-None : goal.returns-in-None
 returns-in-None c =
     let m = c.args.self.now in
     let n = c.args.node in
-    let both = c.intersection-coming-in in
+    let both = c.intersection-coming_in in
     let kind = c.kind.ensures ∙ ap (λ (x : Model). kind_at (models.nodes_of x) n) c.model.ensures in
     takes_none (nodes_of m) (flows_of m) (flows-few (model_of (routing_of m))) (tokens_of m) n c.kind.result kind c.inbound.result both.result c.inbound.ensures both.ensures
     c.in-Exclusive.is c.in-None.ensures
@@ -30,7 +30,7 @@ pub returns-in-Start : goal.returns-in-Start
 returns-in-Start c =
     let m = c.args.self.now in
     let n = c.args.node in
-    let both = c.intersection-coming-in in
+    let both = c.intersection-coming_in in
     let kind = c.kind.ensures ∙ ap (λ (x : Model). kind_at (models.nodes_of x) n) c.model.ensures in
     takes_all (nodes_of m) (flows_of m) (flows-few (model_of (routing_of m))) (tokens_of m) n c.kind.result kind c.inbound.result both.result c.inbound.ensures both.ensures
     c.in-Start.is
