@@ -31,25 +31,25 @@ one-hindrance (Hinders.occupied u w o l) (Hinders.no_way v x) = absurd (w x)
 one-hindrance {b} {waits} {n} (Hinders.occupied {f = f} u w o l) (Hinders.occupied {f = k} v x p m) = ap (λ (i : ℕ). faults.Occupied i b.instance) (lowest-same (λ i. IsOccupied b n i) f k o l p m)
 
 one_fault : {b : Begun} {places : ℕ} {waits : Waits} {n : ℕ} {fault other : CountFault} → Refuses b places waits n fault → Refuses b places waits n other → fault ≡ other
-one_fault (Refuses.no_Node e) (Refuses.no_Node f) = refl
-one_fault (Refuses.no_Node e) (Refuses.not_ready f r) = absurd (both_ways _ e f)
-one_fault (Refuses.no_Node e) (Refuses.no_room f r m) = absurd (both_ways _ e f)
-one_fault (Refuses.no_Node e) (Refuses.hindered f r m h) = absurd (both_ways _ e f)
-one_fault (Refuses.not_ready e r) (Refuses.no_Node f) = absurd (both_ways _ f e)
+one_fault (Refuses.no_node e) (Refuses.no_node f) = refl
+one_fault (Refuses.no_node e) (Refuses.not_ready f r) = absurd (both_ways _ e f)
+one_fault (Refuses.no_node e) (Refuses.no_room f r m) = absurd (both_ways _ e f)
+one_fault (Refuses.no_node e) (Refuses.hindered f r m h) = absurd (both_ways _ e f)
+one_fault (Refuses.not_ready e r) (Refuses.no_node f) = absurd (both_ways _ f e)
 one_fault (Refuses.not_ready e r) (Refuses.not_ready f q) = refl
 one_fault (Refuses.not_ready e r) (Refuses.no_room f q m) = absurd (r q)
 one_fault (Refuses.not_ready e r) (Refuses.hindered f q m h) = absurd (r q)
-one_fault (Refuses.no_room e r m) (Refuses.no_Node f) = absurd (both_ways _ f e)
+one_fault (Refuses.no_room e r m) (Refuses.no_node f) = absurd (both_ways _ f e)
 one_fault (Refuses.no_room e r m) (Refuses.not_ready f q) = absurd (q r)
 one_fault (Refuses.no_room e r m) (Refuses.no_room f q k) = refl
 one_fault (Refuses.no_room e r m) (Refuses.hindered f q k h) = absurd (m k)
-one_fault (Refuses.hindered e r m h) (Refuses.no_Node f) = absurd (both_ways _ f e)
+one_fault (Refuses.hindered e r m h) (Refuses.no_node f) = absurd (both_ways _ f e)
 one_fault (Refuses.hindered e r m h) (Refuses.not_ready f q) = absurd (q r)
 one_fault (Refuses.hindered e r m h) (Refuses.no_room f q k) = absurd (k m)
 one_fault (Refuses.hindered e r m h) (Refuses.hindered f q k g) = one-hindrance h g
 
 no_fault : {b : Begun} {places : ℕ} {waits : Waits} {n : ℕ} {fault : CountFault} → Refuses b places waits n fault → CanGo b waits n → Room b places → ⊥
-no_fault (Refuses.no_Node e) g m = both_ways _ e g.passes.node
+no_fault (Refuses.no_node e) g m = both_ways _ e g.passes.node
 no_fault (Refuses.not_ready e r) g m = r g.passes.ready
 no_fault (Refuses.no_room e r k) g m = k m
 no_fault (Refuses.hindered e r k h) g m = hinders-blocks h g

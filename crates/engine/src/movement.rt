@@ -20,7 +20,7 @@ pub(crate) struct Movement {
 impl<'a> Begun<'a> {
     // Whether the node is a task for which no answer waits.
     fn lacks_answer<S: Service>(&self, node: u8, service: &S) -> bool
-        ensures { Decides result (Unanswered self.now (waits service.now) node) }
+        ensures { Decides result (Unanswered self.now (S.waits service.now) node) }
     {
         match self.marking.routing().model().kind(node) {
             Kind::Task { .. } => service.waiting(u16::from(node)) == 0,
@@ -39,8 +39,8 @@ impl<'a> Begun<'a> {
     /// on and still carries a token after the taking.
     pub(crate) fn movement<S: Service>(&self, node: u8, service: &S) -> Result<Movement, CountFault>
         ensures { MatchResult result
-            (Clear self.now (waits service.now) node)
-            (Hinders self.now (waits service.now) node) }
+            (Clear self.now (S.waits service.now) node)
+            (Hinders self.now (S.waits service.now) node) }
     {
         let instance = self.instance;
         let number = u16::from(node);

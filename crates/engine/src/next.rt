@@ -18,8 +18,8 @@ impl<'a> Begun<'a> {
     // The lowest node that can go. Where there is none: held if some node is ready, else resting.
     fn lowest_to_go<S: Service>(&self, service: &S) -> Result<Turn, Stop>
         ensures { MatchResult result
-            (Turns self.now (waits service.now))
-            (Idle self.now (waits service.now)) }
+            (Turns self.now (S.waits service.now))
+            (Idle self.now (S.waits service.now)) }
     {
         let mut stop = Stop::Resting;
         let count = self.marking.routing().model().nodes().len();
@@ -45,8 +45,8 @@ impl<'a> Begun<'a> {
     ) -> Result<Turn, Stop>
         requires { steps ≤ budget }
         ensures { MatchResult result
-            (NextTurn self.now places (waits service.now) budget steps)
-            (Stops self.now places (waits service.now) budget steps) }
+            (NextTurn self.now places (S.waits service.now) budget steps)
+            (Stops self.now places (S.waits service.now) budget steps) }
     {
         if self.marking.tokens().is_empty() {
             return Err(Stop::Finished);

@@ -32,7 +32,7 @@ impl<'a> Begun<'a> {
     /// Steps the lowest node that can go, again and again, until it has to stop: finished, resting, held, spent, or with
     /// the journal full.
     pub fn run<S: Service>(&mut self, budget: u16, journal: &mut [Line], service: &mut S) -> Outcome
-        ensures { Ran self.old journal.old (waits service.old) budget result.steps result.stop self.new journal.new (waits service.new) }
+        ensures { Ran self.old journal.old (S.waits service.old) budget result.steps result.stop self.new journal.new (S.waits service.new) }
     {
         let mut steps = 0;
         loop {

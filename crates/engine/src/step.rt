@@ -30,8 +30,8 @@ impl<'a> Begun<'a> {
 
     // Takes the answer of a task, which its figure becomes. Any other node takes none.
     fn take_answer<S: Service>(&mut self, node: u8, service: &mut S) -> Answer
-        requires { Unanswered self.old (waits service.old) node → ⊥ }
-        ensures { TakesAnswer self.old (waits service.old) node result self.new (waits service.new) }
+        requires { Unanswered self.old (S.waits service.old) node → ⊥ }
+        ensures { TakesAnswer self.old (S.waits service.old) node result self.new (S.waits service.new) }
     {
         match self.marking.routing().model().kind(node) {
             Kind::Task { figure } => {
@@ -58,8 +58,8 @@ impl<'a> Begun<'a> {
         requires node { has_node self.old node ≡ true }
         requires ready { IsReady self.old node }
         requires room { Room self.old (length journal.old) }
-        requires clear { Clear self.old (waits service.old) node movement }
-        ensures { Went self.old journal.old (waits service.old) node result self.new journal.new (waits service.new) }
+        requires clear { Clear self.old (S.waits service.old) node movement }
+        ensures { Went self.old journal.old (S.waits service.old) node result self.new journal.new (S.waits service.new) }
     {
         let answer = self.take_answer(node, service);
         let line = Line {
@@ -83,7 +83,7 @@ impl<'a> Begun<'a> {
         journal: &mut [Line],
         service: &mut S,
     ) -> Result<Line, CountFault>
-        ensures { Stepped self.old journal.old (waits service.old) node result self.new journal.new (waits service.new) }
+        ensures { Stepped self.old journal.old (S.waits service.old) node result self.new journal.new (S.waits service.new) }
     {
         let instance = self.instance;
         let number = self.number_of(node)?;

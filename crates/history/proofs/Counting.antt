@@ -31,7 +31,7 @@ call-counted (Performed.tells_figure p) = omega arith
 call-counted (Performed.tells_ready p) = omega arith
 call-counted (Performed.tells_holding p) = omega arith
 call-counted (Performed.tells_why p) = omega arith
-call-counted (Performed.Passes-over u) = omega arith
+call-counted (Performed.passes_over u) = omega arith
 
 pub history-counted : {m m' : Moment} {done : List Call} {told : List Reply} → History m done told m' → written_at m' ≡ written_at m + steps_told told
 history-counted History.ends = omega arith

@@ -116,7 +116,7 @@ module _ (model : Routing) (journal₀ : List Line) (waits₀ : Waits) (done : L
   call_kept (Performed.tells_ready p) k = going-kept _ _ _ _ _ _ _ k k.sound
   call_kept (Performed.tells_holding p) k = going-kept _ _ _ _ _ _ _ k k.sound
   call_kept (Performed.tells_why p) k = going-kept _ _ _ _ _ _ _ k k.sound
-  call_kept (Performed.Passes-over u) k = passed-kept _ _ _ _ k u
+  call_kept (Performed.passes_over u) k = passed-kept _ _ _ _ k u
 
 -- ---- whole histories
 

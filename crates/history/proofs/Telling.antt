@@ -60,15 +60,15 @@ module _ (b : Begun) (journal : List Line) (waits : Waits) where
   -- no call but the question itself is performed, so its reply is that of the count
   ready-told : (n : ℕ) (reply : Reply) (m : Moment) → Gateway (nodes_of b) n → Performed (Moment.at (Going b) journal waits) (calls.Ready n) reply m → (t : Bool) × (reply ≡ replies.Ready (Ok t)) × Decides t (PathRule (flows_of b) (tokens_of b) n)
   ready-told n reply m g (Performed.tells_ready p) = ready-reply b n g _ p
-  ready-told n reply m g (Performed.Passes-over u) = absurd u
+  ready-told n reply m g (Performed.passes_over u) = absurd u
 
   holding-told : (n : ℕ) (reply : Reply) (m : Moment) → Gateway (nodes_of b) n → Performed (Moment.at (Going b) journal waits) (calls.Holding n) reply m → (k : ℕ) × (reply ≡ replies.Holding (Ok k)) × HoldingNumber (flows_of b) (tokens_of b) n k
   holding-told n reply m g (Performed.tells_holding p) = holding-reply b n g _ p
-  holding-told n reply m g (Performed.Passes-over u) = absurd u
+  holding-told n reply m g (Performed.passes_over u) = absurd u
 
   why-told : (n : ℕ) (reply : Reply) (m : Moment) → Gateway (nodes_of b) n → (PathRule (flows_of b) (tokens_of b) n → ⊥) → TokenInbound (flows_of b) (tokens_of b) n → Performed (Moment.at (Going b) journal waits) (calls.Why n) reply m → (w : Reason) × (list : List ℕ) × (reply ≡ replies.Why (Ok w) list) × Why (flows_of b) (tokens_of b) n w.holder w.end (take w.length list)
   why-told n reply m g waiting token (Performed.tells_why p) = why-reply b n g _ _ waiting token p
-  why-told n reply m g waiting token (Performed.Passes-over u) = absurd u
+  why-told n reply m g waiting token (Performed.passes_over u) = absurd u
 
   -- whatever is asked next about an inclusive gateway is told rightly
   pub told-rightly : Told (nodes_of b) (flows_of b) (tokens_of b) (Moment.at (Going b) journal waits)

@@ -34,7 +34,7 @@ fn perform_begun<S: Service>(
     journal: &mut [Line],
     service: &mut S,
 ) -> Reply
-    ensures { Performed (Moment.at (Going count.old) journal.old (waits service.old)) call result (Moment.at (Going count.new) journal.new (waits service.new)) }
+    ensures { Performed (Moment.at (Going count.old) journal.old (S.waits service.old)) call result (Moment.at (Going count.new) journal.new (S.waits service.new)) }
 {
     match call {
         Call::Step { node } => Reply::Stepped(count.step(node, journal, service)),
@@ -58,7 +58,7 @@ fn perform<'a, S: Service>(
     journal: &mut [Line],
     service: &mut S,
 ) -> (Count<'a>, Reply)
-    ensures { Performed (Moment.at count.entry journal.old (waits service.old)) call result.1 (Moment.at result.0 journal.new (waits service.new)) }
+    ensures { Performed (Moment.at count.entry journal.old (S.waits service.old)) call result.1 (Moment.at result.0 journal.new (S.waits service.new)) }
 {
     match count {
         Count::Setting(set_up) => perform_set_up(set_up, call),
@@ -80,9 +80,9 @@ pub fn attend<'a, S: Service>(
     calls: &[Call],
     replies: &mut [Reply],
 ) -> Count<'a>
-    ensures attended { Attended routing.now instance journal.old (waits service.old)
+    ensures attended { Attended routing.now instance journal.old (S.waits service.old)
         (take (length replies.old) calls.now) (take (length calls.now) replies.new)
-        result journal.new (waits service.new) }
+        result journal.new (S.waits service.new) }
     ensures rest { drop (length calls.now) replies.new ≡ drop (length calls.now) replies.old }
 {
     let mut count = Count::Setting(SetUp::new(routing, instance));

@@ -8,7 +8,7 @@ use Rattle.paths.proofs.Chosen.{chosen_none, chosen-take, chosen-skip, source-at
 use Rattle.engine.specs.SetUps.{LeavesStart}
 use Rattle.engine.proofs.Starts.{from_start, start-decides}
 use Rattle.engine.proofs.set_up.start_flows.Goals as goal
-use Rattle.engine.proofs.set_up.start_flows.Goals.{then-is-start, else-is-start}
+use Rattle.engine.proofs.set_up.start_flows.Goals.{then-is_start, else-is_start}
 
 pub loop-place-init : goal.loop-place-init
 loop-place-init c = c.empty-found.ensures ∙ chosen_none (from_start (nodes_of c.args.model.now) c.flows-flows.result.now)
@@ -20,9 +20,9 @@ loop-place-preserved c =
     let i = c.loop-place.place in
     let p = from_start nodes flows in
     let here : p (i + 1) ≡ is_start c.kind.result = ap (λ (n : ℕ). is_start (kind_at nodes n)) (source-at flows i) ∙ ap is_start (sym c.kind.ensures) in
-    elim c.if-is-start.branch [
-      | then-is-start w ↦ w.found-is ∙ w.insert-found.ensures ∙ chosen-take p i c.loop-place.found (here ∙ sym w.if-is-start.ensures) c.loop-place.invariant
-      | else-is-start w ↦ w.found-is ∙ chosen-skip p i c.loop-place.found (here ∙ sym w.if-is-start.ensures) c.loop-place.invariant
+    elim c.if-is_start.branch [
+      | then-is_start w ↦ w.found-is ∙ w.insert-found.ensures ∙ chosen-take p i c.loop-place.found (here ∙ sym w.if-is_start.ensures) c.loop-place.invariant
+      | else-is_start w ↦ w.found-is ∙ chosen-skip p i c.loop-place.found (here ∙ sym w.if-is_start.ensures) c.loop-place.invariant
     ]
 
 pub returns : goal.returns

@@ -20,5 +20,5 @@ returns-in-Holding g c = as_call c.in-Holding.is (Performed.tells_holding c.hold
 pub returns-in-Why : goal.returns-in-Why
 returns-in-Why g c = as_call c.in-Why.is (Performed.tells_why c.why-reason.ensures)
 
-pub returns-in-default : goal.returns-in-default
-returns-in-default g c = Performed.Passes-over (rest-begun c.args.count.now c.args.call c.in-default.not-Step c.in-default.not-Run c.in-default.not-Figure c.in-default.not-Ready c.in-default.not-Holding c.in-default.not-Why)
+pub returns-in_default : goal.returns-in_default
+returns-in_default g c = Performed.passes_over (rest-begun c.args.count.now c.args.call c.in_default.not-Step c.in_default.not-Run c.in_default.not-Figure c.in_default.not-Ready c.in_default.not-Holding c.in_default.not-Why)

@@ -12,5 +12,5 @@ returns-in-Set c = λ journal waits.
 pub returns-in-Begin : goal.returns-in-Begin
 returns-in-Begin c = λ journal waits. as_call c.in-Begin.is (Performed.begins c.begin.ensures)
 
-pub returns-in-default : goal.returns-in-default
-returns-in-default c = λ journal waits. Performed.Passes-over (rest-set-up c.args.count c.args.call c.in-default.not-Set c.in-default.not-Begin)
+pub returns-in_default : goal.returns-in_default
+returns-in_default c = λ journal waits. Performed.passes_over (rest-set-up c.args.count c.args.call c.in_default.not-Set c.in_default.not-Begin)

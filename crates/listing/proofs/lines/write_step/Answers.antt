@@ -4,9 +4,9 @@ use Rattle.listing.proofs.lines.write_step.Goals as goal
 
 pub returns : goal.returns
 returns c =
-    let step = same_number c.from.ensures c.write-number-end.ensures.text in
-    let node = same_number c.from-2.ensures c.write-number-end-2.ensures.text in
-    let takes = c.write-set-end.ensures.text in
-    let puts = c.write-set-end-2.ensures.text in
-    let answer = c.write-answer-part-end.ensures.text in
-    record { text = then c.write-text-end.ensures (then step (then c.write-text-end-2.ensures (then node (then c.write-text-end-3.ensures (then takes (then c.write-text-end-4.ensures (then puts (then answer c.write-text.ensures)))))))); most = search rules }
+    let step = same_number c.from.ensures c.write_number-end.ensures.text in
+    let node = same_number c.from-2.ensures c.write_number-end-2.ensures.text in
+    let takes = c.write_set-end.ensures.text in
+    let puts = c.write_set-end-2.ensures.text in
+    let answer = c.write_answer_part-end.ensures.text in
+    record { text = then c.write_text-end.ensures (then step (then c.write_text-end-2.ensures (then node (then c.write_text-end-3.ensures (then takes (then c.write_text-end-4.ensures (then puts (then answer c.write_text.ensures)))))))); most = search rules }

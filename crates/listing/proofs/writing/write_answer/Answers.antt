@@ -9,9 +9,9 @@ returns-then-answer-lt0 c =
     let value = c.args.answer.value in
     let low : value <ℤ pos 0 = grind (arith, ints) in
     let fits : SFits w32 value = search rules in
-    let size = c.from-size.ensures ∙ c.unsigned-abs.ensures.value ∙ ap nat_abs (to_z-of_z w32 value fits) in
-    let w = c.write-text-digits.ensures in
+    let size = c.from-size.ensures ∙ c.unsigned_abs.ensures.value ∙ ap nat_abs (to_z-of_z w32 value fits) in
+    let w = c.write_text-digits.ensures in
     record {
-      text = same_text (sym (signed-minus value low)) (then w (same_number size c.write-number.ensures.text));
-      most = omega (arith, w.ends, c.write-number.ensures.most);
+      text = same_text (sym (signed-minus value low)) (then w (same_number size c.write_number.ensures.text));
+      most = omega (arith, w.ends, c.write_number.ensures.most);
     }

@@ -8,8 +8,8 @@ use Rattle.listing.proofs.writing.write_higher.Goals as goal
 pub loop-flow-init : goal.loop-flow-init
 loop-flow-init c = (_, wrote_nothing c.args.out.now c.args.place (search rules), refl, omega arith)
 
-pub write-after-comma-end-requires : goal.write-after-comma-end-requires
-write-after-comma-end-requires c =
+pub write_after_comma-end-requires : goal.write_after_comma-end-requires
+write_after_comma-end-requires c =
     let n = next-some c.args.flows c.loop-flow.last c.in-Some.flow c.in-Some.ensures in
     omega (arith, n.higher, n.range, c.loop-flow.invariant.3, two_digits c.in-Some.flow n.range)
 
@@ -18,7 +18,7 @@ loop-flow-smaller c = let n = next-some c.args.flows c.loop-flow.last c.in-Some.
 
 pub loop-flow-preserved : goal.loop-flow-preserved
 loop-flow-preserved c =
-    let w = c.write-after-comma-end.ensures in
+    let w = c.write_after_comma-end.ensures in
     let n = next-some c.args.flows c.loop-flow.last c.in-Some.flow c.in-Some.ensures in
     let inv = c.loop-flow.invariant in (
       _,
@@ -30,4 +30,4 @@ loop-flow-preserved c =
 pub returns : goal.returns
 returns c =
     let inv = c.loop-flow.invariant in
-    record { text = same_text (higher-all c.args.flows inv.0 c.args.lowest c.loop-flow.last inv.2 c.in-default.ensures) inv.1; most = omega (arith, inv.3) }
+    record { text = same_text (higher-all c.args.flows inv.0 c.args.lowest c.loop-flow.last inv.2 c.in_default.ensures) inv.1; most = omega (arith, inv.3) }

@@ -9,15 +9,15 @@ use Rattle.listing.proofs.writing.write_rest.Goals as goal
 pub loop-flow-init : goal.loop-flow-init
 loop-flow-init c = (wrote_nothing _ _ (search rules), search rules)
 
-pub write-after-comma-end-requires : goal.write-after-comma-end-requires
-write-after-comma-end-requires c =
+pub write_after_comma-end-requires : goal.write_after_comma-end-requires
+write_after_comma-end-requires c =
     let short = three-digits (get_or c.args.flows.now c.loop-flow.flow-index 0) (search rules) in
     let most = c.loop-flow.invariant.1 in
     omega arith
 
 pub loop-flow-preserved : goal.loop-flow-preserved
 loop-flow-preserved c =
-    let w = c.write-after-comma-end.ensures in
+    let w = c.write_after_comma-end.ensures in
     let short = three-digits (get_or c.args.flows.now c.loop-flow.flow-index 0) (search rules) in (
       same_text (sym (after_more c.args.flows.now c.loop-flow.flow-index c.loop-flow-test.true)) (then c.loop-flow.invariant.0 w),
       omega (arith, w.ends, c.loop-flow.invariant.1),

@@ -8,8 +8,8 @@ use Rattle.engine.proofs.counts.Begun.carry_out.Goals as goal
 pub returns : goal.returns
 returns g c =
     let m = c.args.movement in
-    let t = c.take-answer-answer.ensures in
-    let l : Line = record { node = c.args.node; taken = m.taken; put = m.put; answer = c.take-answer-answer.result } in
+    let t = c.take_answer-answer.ensures in
+    let l : Line = record { node = c.args.node; taken = m.taken; put = m.put; answer = c.take_answer-answer.result } in
     record {
       node = refl;
       allowed = record {

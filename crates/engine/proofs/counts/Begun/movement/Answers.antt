@@ -16,19 +16,19 @@ use Rattle.engine.specs.Steps.Hinders.{unanswered, no_way, occupied}
 use Rattle.engine.proofs.Moves.{lowest-left}
 use Rattle.engine.proofs.counts.Begun.movement.Goals as goal
 
-pub returns-then-lacks-answer : goal.returns-then-lacks-answer
-returns-then-lacks-answer g c =
+pub returns-then-lacks_answer : goal.returns-then-lacks_answer
+returns-then-lacks_answer g c =
     let b = c.args.self.now in
     let w = g.S.Service.waits c.args.service.now in
     subst (λ (k : ℕ). Hinders b w c.args.node (faults.Service (services.NoAnswer k) b.instance)) (sym c.from-number.ensures)
-    (unanswered (c.lacks-answer.ensures.0 c.if-lacks-answer.true))
+    (unanswered (c.lacks_answer.ensures.0 c.if-lacks_answer.true))
 
-pub returns-in-default : goal.returns-in-default
-returns-in-default g c =
+pub returns-in_default : goal.returns-in_default
+returns-in_default g c =
     let b = c.args.self.now in
     let w = g.S.Service.waits c.args.service.now in
-    let waits-none = λ (u : Unanswered b w c.args.node). both_ways _ c.if-lacks-answer.false (c.lacks-answer.ensures.1 u) in
-    let none = subst (λ (r : Routing). NoWayOn (nodes_in r) (flows_in r) (figures_of b) c.args.node) c.routing.ensures c.in-default.ensures in
+    let waits-none = λ (u : Unanswered b w c.args.node). both_ways _ c.if-lacks_answer.false (c.lacks_answer.ensures.1 u) in
+    let none = subst (λ (r : Routing). NoWayOn (nodes_in r) (flows_in r) (figures_of b) c.args.node) c.routing.ensures c.in_default.ensures in
     subst (λ (k : ℕ). Hinders b w c.args.node (faults.NoWay k b.instance)) (sym c.from-number.ensures) (no_way waits-none none)
 
 pub returns-in-Some-lowest : goal.returns-in-Some-lowest
@@ -36,7 +36,7 @@ returns-in-Some-lowest g c =
     let b = c.args.self.now in
     let w = g.S.Service.waits c.args.service.now in
     let n = c.args.node in
-    let waits-none = λ (u : Unanswered b w n). both_ways _ c.if-lacks-answer.false (c.lacks-answer.ensures.1 u) in
+    let waits-none = λ (u : Unanswered b w n). both_ways _ c.if-lacks_answer.false (c.lacks_answer.ensures.1 u) in
     let way = subst (λ (r : Routing). SomeWay (nodes_in r) (flows_in r) (figures_of b) n c.in-Some.put) c.routing.ensures c.in-Some.ensures in
     let is-left : c.intersection-occupied.result ≡ shared (without (tokens_of b) c.takes-taken.result) c.in-Some.put =
     c.intersection-occupied.ensures ∙ ap (λ (s : FlowSet). shared s c.in-Some.put) (c.difference.ensures ∙ ap (λ (s : FlowSet). without s c.takes-taken.result) c.tokens.ensures) in
@@ -53,7 +53,7 @@ returns-in-None g c =
     let is-left : c.intersection-occupied.result ≡ shared (without (tokens_of b) c.takes-taken.result) c.in-Some.put =
     c.intersection-occupied.ensures ∙ ap (λ (s : FlowSet). shared s c.in-Some.put) (c.difference.ensures ∙ ap (λ (s : FlowSet). without s c.takes-taken.result) c.tokens.ensures) in
     record {
-      answered = λ u. both_ways _ c.if-lacks-answer.false (c.lacks-answer.ensures.1 u);
+      answered = λ u. both_ways _ c.if-lacks_answer.false (c.lacks_answer.ensures.1 u);
       way = way.way;
       free = subst (λ (o : Option ℕ). MatchOption o ((f : ℕ) → Occupied (nodes_of b) (flows_of b) (tokens_of b) (figures_of b) n f → ⊥) (λ f. Occupied (nodes_of b) (flows_of b) (tokens_of b) (figures_of b) n f × ((k : ℕ) → k < f → Occupied (nodes_of b) (flows_of b) (tokens_of b) (figures_of b) n k → ⊥))) (sym c.lowest.ensures ∙ c.in-None.is)
           (lowest-left (nodes_of b) (flows_of b) (flows-few (model_of (routing_of b))) (tokens_of b) (figures_of b) n c.takes-taken.result c.in-Some.put c.takes-taken.ensures way.gets c.intersection-occupied.result is-left);

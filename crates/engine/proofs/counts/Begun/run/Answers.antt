@@ -17,4 +17,4 @@ loop-stop-smaller g c = let n = c.in-Ok.ensures in omega (arith, n.goes.budgeted
 pub loop-stop-preserved : goal.loop-stop-preserved
 loop-stop-preserved g c =
     let n = c.in-Ok.ensures in
-    (omega (arith, n.goes.budgeted), again c.loop-stop.invariant.1 n.goes c.carry-out.ensures)
+    (omega (arith, n.goes.budgeted), again c.loop-stop.invariant.1 n.goes c.carry_out.ensures)

@@ -6,8 +6,8 @@ use Rattle.model.specs.Rules.{kind_at}
 use Rattle.engine.proofs.Tasks.{task-figure}
 use Rattle.engine.proofs.counts.Begun.take_answer.Goals as goal
 
-pub overflow-sub-from : goal.overflow-sub-from
-overflow-sub-from g c =
+pub overflow_sub-from : goal.overflow_sub-from
+overflow_sub-from g c =
     let f = task-figure (draft_of c.model.result.now) c.args.node c.in-Task.figure (sym c.kind.ensures ∙ c.in-Task.is) in
     omega (arith, f.0, c.from-in-Task.ensures)
 

@@ -8,7 +8,7 @@ use Rattle.graph_tests.proofs.edges.EdgesGraph.degree.Goals.{then-edge-place, el
 pub loop-edge-preserved : goal.loop-edge-preserved
 loop-edge-preserved c =
     let es = c.args.self.now.edges.now in
-    let i = c.loop-edge.edge_index in
+    let i = c.loop-edge.edge-index in
     let p = c.args.place in
     elim c.if-edge-place.branch [
       | then-edge-place w ↦ let e = ap length (leads es i p c.loop-edge-test.true w.if-edge-place.true) in (omega (arith, e, w.number-is, c.loop-edge.invariant.0), omega (arith, w.number-is, c.loop-edge.invariant.1))
@@ -18,5 +18,5 @@ loop-edge-preserved c =
 pub returns : goal.returns
 returns c =
     let es = c.args.self.now.edges.now in
-    let e = at_drop_all (λ xs. length (targets xs c.args.place)) es c.loop-edge.edge_index c.loop-edge-test.false in
+    let e = at_drop_all (λ xs. length (targets xs c.args.place)) es c.loop-edge.edge-index c.loop-edge-test.false in
     omega (arith, e, c.loop-edge.invariant.0)

@@ -9,7 +9,7 @@ use Rattle.graph_tests.proofs.edges.EdgesGraph.neighbour.Goals.{then-edge-place+
 pub returns-then-before-eq0 : goal.returns-then-before-eq0
 returns-then-before-eq0 c =
     let es = c.args.self.now.edges.now in
-    let i = c.loop-edge.edge_index in
+    let i = c.loop-edge.edge-index in
     let p = c.args.place in
     let b = (get_or es i (0, 0)).1 in
     sym (sym c.loop-edge.invariant
@@ -19,7 +19,7 @@ returns-then-before-eq0 c =
 pub loop-edge-preserved : goal.loop-edge-preserved
 loop-edge-preserved c =
     let es = c.args.self.now.edges.now in
-    let i = c.loop-edge.edge_index in
+    let i = c.loop-edge.edge-index in
     let p = c.args.place in
     let b = (get_or es i (0, 0)).1 in
     elim c.if-edge-place.branch [
@@ -37,5 +37,5 @@ loop-edge-preserved c =
 pub returns : goal.returns
 returns c =
     let es = c.args.self.now.edges.now in
-    let e = at_drop_all (λ xs. slice_get (targets xs c.args.place) c.loop-edge.before) es c.loop-edge.edge_index c.loop-edge-test.false in
+    let e = at_drop_all (λ xs. slice_get (targets xs c.args.place) c.loop-edge.before) es c.loop-edge.edge-index c.loop-edge-test.false in
     sym (sym c.loop-edge.invariant ∙ e)
