@@ -1,5 +1,5 @@
 -- Tasks of a model, and the answers that wait for them.
-use Rattle.std.proofs.Common.{◌≡◌, ℕ, zero, suc, ◌≤◌, Bool, true, false, eqb, leb, List, [], ◌∷◌, length, get_or, Decides, sym, refl, ap, ◌∙◌, subst, arith}
+use Rattle.std.proofs.Common.{◌≡◌, ℕ, zero, suc, ◌≤◌, true, eqb, leb, List, [], ◌∷◌, length, get_or, Decides, sym, refl, ap, ◌∙◌, subst, arith}
 use Rattle.std.proofs.lemmas.Bool.{and_parts, leb-true, eqb-true, eq-eqb}
 use Rattle.process.specs.declared.draft.Draft.{Draft}
 use Rattle.process.specs.declared.node.Kind.{Kind}

@@ -1,5 +1,5 @@
 -- The lowest node that can go, found one node after another.
-use Rattle.std.proofs.Common.{◌≡◌, ℕ, ◌+◌, ◌<◌, ◌≤◌, Bool, true, false, leb, ◌⊎◌, length, sym, refl, ap, ◌∙◌, subst, inl, inr, ⊎_elim, arith}
+use Rattle.std.proofs.Common.{◌≡◌, ℕ, ◌+◌, ◌<◌, ◌≤◌, true, false, leb, ◌⊎◌, length, sym, refl, ap, ◌∙◌, subst, inl, inr, ⊎_elim, arith}
 use Rattle.std.proofs.lemmas.Bool.{and_parts, and_from, leb-true, le-leb, cases_eq}
 use Rattle.fault.specs.declared.count.CountFault.{CountFault}
 use Rattle.process.specs.declared.sets.FlowSet.{FlowSet}
@@ -11,7 +11,7 @@ use Rattle.engine.specs.declared.movement.Movement.{Movement}
 use Rattle.engine.specs.declared.run.Stop.{Stop}
 use Rattle.engine.specs.declared.run.Stop.TheVariants as stops
 use Rattle.engine.specs.Counts.{nodes_of, tokens_of, has_node, IsReady}
-use Rattle.engine.specs.Runs.{CanGo, LowestToGo, SomeToken, NoneReady, SomeReady, NoneToGo, Idle, Stops}
+use Rattle.engine.specs.Runs.{CanGo, LowestToGo, SomeToken, SomeReady, Idle, Stops}
 use Rattle.engine.specs.Runs.Idle.{rests, waits_on}
 use Rattle.engine.specs.Runs.Stops.{resting, held}
 use Rattle.engine.specs.Steps.{Hinders, Clear}

@@ -4,7 +4,7 @@ use Rattle.process.specs.declared.node.Kind.{Kind}
 use Rattle.process.specs.declared.node.Kind.TheVariants as kinds
 use Rattle.process.specs.declared.sets.FlowSet.{FlowSet}
 use Rattle.paths.specs.declared.routing.Routing.{Routing}
-use Rattle.paths.specs.Paths.{HoldsBack, TokenInbound, PathRule}
+use Rattle.paths.specs.Paths.{HoldsBack, TokenInbound}
 use Rattle.marking.specs.Nodes.{ReadyAs}
 use Rattle.engine.specs.declared.counts.Begun.{Begun}
 use Rattle.engine.specs.Counts.{flows_of, tokens_of, kind_of, IsReady}

@@ -1,5 +1,5 @@
 -- Which journal lines BPMN allows from given tokens and figures, and what a line leaves.
-use Rattle.std.specs.Prelude.{◌≡◌, ℕ, ◌-◌, ◌<◌, true, List, [], ◌∷◌, set, ℤ, pos, Decides, slice_set}
+use Rattle.std.specs.Prelude.{◌≡◌, ℕ, ◌-◌, true, List, [], ◌∷◌, ℤ, pos, Decides, slice_set}
 use Rattle.process.specs.declared.flow.Flow.{Flow}
 use Rattle.process.specs.declared.node.Kind.{Kind}
 use Rattle.process.specs.declared.node.Kind.TheVariants as kinds

@@ -1,5 +1,5 @@
 -- What a run does: steps, one after another, and why it stops.
-use Rattle.std.specs.Prelude.{◌≡◌, ℕ, ◌+◌, ◌<◌, ◌≤◌, true, false, List, length}
+use Rattle.std.specs.Prelude.{◌≡◌, ℕ, ◌+◌, ◌<◌, true, false, List, length}
 use Rattle.process.specs.Sets.{has}
 use Rattle.service.specs.Waits.{Waits}
 use Rattle.engine.specs.declared.counts.Begun.{Begun}

@@ -1,5 +1,5 @@
 -- What the calls of a count that is set up do.
-use Rattle.std.specs.Prelude.{◌≡◌, ℕ, ◌-◌, true, cond, not, ◌&&◌, List, set, replicate, ℤ, pos, Ok, Err, Decides, Result, slice_set}
+use Rattle.std.specs.Prelude.{◌≡◌, ℕ, ◌-◌, true, cond, not, ◌&&◌, List, replicate, ℤ, pos, Ok, Err, Decides, Result, slice_set}
 use Rattle.fault.specs.declared.count.CountFault.{CountFault}
 use Rattle.fault.specs.declared.count.CountFault.TheVariants.{FigureNumber, Value}
 use Rattle.process.specs.declared.flow.Flow.{Flow}

@@ -1,5 +1,5 @@
 -- What a step does to a count, the journal and the answers that wait, and when it is refused.
-use Rattle.std.specs.Prelude.{◌≡◌, ℕ, ◌+◌, ◌<◌, true, false, List, [], length, ℤ, Ok, Err, Result, slice_set}
+use Rattle.std.specs.Prelude.{◌≡◌, ℕ, ◌+◌, ◌<◌, true, false, List, [], length, Ok, Err, Result, slice_set}
 use Rattle.fault.specs.declared.count.CountFault.{CountFault}
 use Rattle.fault.specs.declared.count.CountFault.TheVariants as faults
 use Rattle.fault.specs.declared.service.ServiceFault.TheVariants as services
@@ -12,7 +12,7 @@ use Rattle.engine.specs.declared.counts.Begun.{Begun}
 use Rattle.engine.specs.declared.line.Line.{Line}
 use Rattle.engine.specs.declared.movement.Movement.{Movement}
 use Rattle.engine.specs.Counts.{nodes_of, flows_of, tokens_of, figures_of, has_node, kind_of, IsReady}
-use Rattle.engine.specs.Lines.{no_answer, AnswerFits, figures_after, Occupied, Passes, TakenSet, PutSet, Allowed}
+use Rattle.engine.specs.Lines.{no_answer, AnswerFits, figures_after, Occupied, TakenSet, PutSet, Allowed}
 
 -- the journal has a next place, and fewer than 65,535 lines stand
 pub record Room (b : Begun) (places : ℕ) : Type 0 where

@@ -1,5 +1,5 @@
 -- What stands in a list, and lists in which no place stands twice. Crates that use the search build on these lemmas.
-use Rattle.std.proofs.Common.{◌≡◌, ℕ, zero, suc, ◌-◌, ◌<◌, ◌≤◌, Bool, true, false, eqb, ◌⊎◌, List, [], ◌∷◌, ◌++◌, length, get_or, take, Decides, sym, refl, ◌∙◌, ap, subst, inl, inr, ⊎_elim, suc-le-suc, zero-le, le_of_suc-le-suc, not-suc-le-zero, arith, length-append}
+use Rattle.std.proofs.Common.{◌≡◌, ℕ, zero, suc, ◌-◌, ◌<◌, ◌≤◌, Bool, false, ◌⊎◌, List, [], ◌∷◌, ◌++◌, length, get_or, take, Decides, sym, refl, ◌∙◌, ap, subst, inl, inr, ⊎_elim, suc-le-suc, zero-le, le_of_suc-le-suc, not-suc-le-zero, arith, length-append}
 use Rattle.std.specs.List.{list_any, ContainsAt as Has}
 use Rattle.std.proofs.lemmas.Bool.{or_cases, or_left, or_right, false≢true}
 use Rattle.graph.specs.Reach.{Holds, Distinct, Reached, MoreThan}
@@ -46,8 +46,7 @@ module _ {P : Type 0} where
   holds-decides : (eq : P → Bool) (p : P) → ((q : P) → Decides (eq q) (q ≡ p)) → (xs : List P) → Decides (list_any eq xs) (Holds xs p)
   holds-decides eq p law [] = (λ e. absurd (false≢true e), λ h. absurd h)
   holds-decides eq p law (x ∷ xs) =
-      let rest = holds-decides eq p law xs in
-      (
+      let rest = holds-decides eq p law xs in (
         λ t. ⊎_elim (λ e. inl ((law x).0 e)) (λ e. inr (rest.0 e)) (or_cases (eq x) (list_any eq xs) t),
         ⊎_elim (λ e. or_left (eq x) (list_any eq xs) ((law x).1 e)) (λ h. or_right (eq x) (list_any eq xs) (rest.1 h)),
       )

@@ -1,5 +1,5 @@
 -- As many lines stand as steps were told.
-use Rattle.std.proofs.Common.{◌≡◌, ℕ, ◌+◌, List, [], ◌∷◌, Ok, Err, Result, sym, refl, ap, ◌∙◌, arith}
+use Rattle.std.proofs.Common.{◌≡◌, ℕ, ◌+◌, List, Ok, Err, Result, ap, arith}
 use Rattle.fault.specs.declared.count.CountFault.{CountFault}
 use Rattle.service.specs.Waits.{Waits}
 use Rattle.engine.specs.declared.counts.Begun.{Begun}

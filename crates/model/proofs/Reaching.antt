@@ -1,11 +1,11 @@
 -- The nodes next to a node, and those that can be reached.
-use Rattle.std.proofs.Common.{◌≡◌, ℕ, zero, suc, ◌+◌, ◌-◌, ◌<◌, ◌≤◌, Bool, true, false, cond, ◌&&◌, ◌||◌, eqb, leb, ◌⊎◌, List, [], ◌∷◌, length, get_or, drop, Ok, Err, Decides, Result, sym, refl, ap, ◌∙◌, subst, inl, inr, ⊎_elim, arith, eq-eqb, ne_eqb}
+use Rattle.std.proofs.Common.{◌≡◌, ℕ, zero, suc, ◌+◌, ◌<◌, ◌≤◌, Bool, true, false, cond, ◌&&◌, ◌||◌, eqb, leb, List, [], ◌∷◌, length, get_or, drop, Ok, Err, Decides, Result, sym, refl, ap, ◌∙◌, subst, inl, inr, ⊎_elim, arith, eq-eqb, ne_eqb}
 use Rattle.std.proofs.lemmas.List.{drop_more, at_drop_more}
 use Rattle.std.proofs.lemmas.Bool.{cases_lt, and_parts, leb-true, eqb-true, or_cases, or_left, or_right, both_ways, false≢true}
 use Rattle.fault.specs.declared.model.ModelFault.{ModelFault}
 use Rattle.fault.specs.declared.model.ModelFault.TheVariants.{NotReached}
-use Rattle.graph.specs.Reach.{Holds, Reached, start, step, AllReached, MoreThan}
-use Rattle.graph.proofs.Holding.{not_more, holds-from-has, has-from-holds}
+use Rattle.graph.specs.Reach.{Holds, start, step, AllReached, MoreThan}
+use Rattle.graph.proofs.Holding.{not_more}
 use Rattle.std.specs.List.{list_any}
 use Rattle.process.specs.declared.flow.Flow.{Flow}
 use Rattle.process.specs.declared.node.Kind.{Kind}

@@ -1,15 +1,15 @@
 -- The search backwards from a flow finds the flows from which a walk ends in it.
-use Rattle.std.proofs.Common.{◌≡◌, ℕ, zero, suc, ◌+◌, ◌<◌, ◌≤◌, Bool, true, false, cond, ◌⊎◌, List, [], ◌∷◌, length, Decides, sym, refl, ap, ◌∙◌, subst, inl, inr, ⊎_elim, arith}
+use Rattle.std.proofs.Common.{◌≡◌, ℕ, zero, suc, ◌+◌, ◌<◌, ◌≤◌, Bool, true, false, cond, List, [], ◌∷◌, length, Decides, sym, refl, ap, ◌∙◌, subst, inl, inr, ⊎_elim, arith}
 use Rattle.std.proofs.lemmas.Bool.{cases_eq, both_ways, and_parts, eqb-true, eq-eqb, or_cases, or_left, or_right}
 use Rattle.graph.specs.Reach.{Holds, Reached, start, step, AllReached, MoreThan}
 use Rattle.graph.proofs.Holding.{not_more}
 use Rattle.process.specs.declared.flow.Flow.{Flow}
 use Rattle.process.specs.declared.sets.FlowSet.{FlowSet}
-use Rattle.process.specs.Sets.{has, no_flows, just, these, among, above}
+use Rattle.process.specs.Sets.{has, just, these, among, above}
 use Rattle.process.proofs.Membership.{has-no_flows, has-just, has_one, has-joined, these-none, these-more}
 use Rattle.model.proofs.Reaching.{numbers, numbers-length, numbers-hold}
-use Rattle.paths.specs.Paths.{source, target, IsFlow, Reaches}
-use Rattle.paths.specs.Links.{Step, leaders}
+use Rattle.paths.specs.Paths.{IsFlow, Reaches}
+use Rattle.paths.specs.Links.{leaders}
 use Rattle.paths.proofs.Chosen.{leads, led}
 use Rattle.paths.proofs.Walks.{Walk, listed, walked, starts}
 use Rattle.paths.proofs.Walks.Walk.{stop, go}

@@ -1,12 +1,12 @@
 -- The worked cases, from the rule: the levels around each flow compute the table of reach, and the table who holds a gateway back.
-use Rattle.std.proofs.Common.{◌≡◌, ℕ, zero, suc, ◌+◌, ◌<◌, ◌≤◌, Bool, true, false, cond, not, ◌&&◌, List, [], ◌∷◌, map, length, Decides, sym, refl, ap, ◌∙◌, subst, add-one, arith, lit≤}
+use Rattle.std.proofs.Common.{◌≡◌, ℕ, zero, suc, ◌+◌, ◌<◌, ◌≤◌, Bool, true, false, cond, not, ◌&&◌, List, [], ◌∷◌, map, length, Decides, sym, refl, ap, subst, add-one, arith, lit≤}
 use Rattle.std.specs.List.{range_with_len}
 use Rattle.std.proofs.lemmas.List.FromFn.{get_or-map-range_with_len}
 use Rattle.std.proofs.lemmas.Bool.{both_ways, and_from, not_from_false}
 use Rattle.process.specs.declared.flow.Flow.{Flow}
 use Rattle.process.specs.declared.sets.FlowSet.{FlowSet}
 use Rattle.process.specs.Sets.{has, no_flows, just, joined, shared, without, these, is_none, tally}
-use Rattle.paths.specs.Paths.{source, target, IsFlow, Inbound, IsPath, Avoids, Reaches, HoldsBack, PathRule, HoldingNumber, NoFlowTwice, Why}
+use Rattle.paths.specs.Paths.{source, target, Inbound, IsPath, Avoids, Reaches, HoldsBack, PathRule, HoldingNumber, NoFlowTwice, Why}
 use Rattle.paths.specs.Paths.IsPath.{alone, then}
 use Rattle.paths.specs.Links.{chosen, entering, leaders}
 use Rattle.paths.specs.Tables.{at_place, row, Sources, LeadsTo}
@@ -15,7 +15,7 @@ use Rattle.paths.specs.Worked.{process_7, process_8, WorkedCases}
 use Rattle.paths.proofs.Chosen.{chosen-has, has_chosen, entering-decides}
 use Rattle.paths.proofs.Counts.{none-from-tally}
 use Rattle.paths.proofs.Distance.{level-decides}
-use Rattle.paths.proofs.Holding.{lead-none, lead-take, lead-skip, holders-decide, holder-is-flow, number-held, rule-decides}
+use Rattle.paths.proofs.Holding.{lead-none, lead-take, lead-skip, holders-decide, number-held, rule-decides}
 use Rattle.paths.proofs.Walks.{reaching-flow}
 
 -- ---- the table, computed

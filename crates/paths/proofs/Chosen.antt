@@ -1,12 +1,12 @@
 -- Sets of the flows that pass a test: the flows that enter or leave a node, and those that may come before a flow.
-use Rattle.std.proofs.Common.{◌≡◌, ℕ, zero, suc, ◌+◌, ◌-◌, ◌<◌, ◌≤◌, Bool, true, false, cond, eqb, ◌⊎◌, List, length, get_or, Decides, sym, refl, ap, ◌∙◌, subst, ap₂, inl, inr, ⊎_elim, add-one, arith}
+use Rattle.std.proofs.Common.{◌≡◌, ℕ, zero, suc, ◌+◌, ◌-◌, ◌≤◌, Bool, true, false, cond, eqb, List, length, get_or, Decides, sym, refl, ap, ◌∙◌, subst, ap₂, ⊎_elim, add-one, arith}
 use Rattle.std.proofs.lemmas.Bool.{eqb-true, eqb-false, eq-eqb, ne_eqb, cases_eq, both_ways, and_parts, or_cases, or_left, or_right}
 use Rattle.process.specs.declared.flow.Flow.{Flow}
 use Rattle.process.specs.declared.sets.FlowSet.{FlowSet}
 use Rattle.process.specs.Sets.{in_range, has, no_flows, just, joined}
 use Rattle.process.proofs.Membership.{has-no_flows, has-just, has_one, has-joined}
 use Rattle.model.specs.Rules.{flow_at, no_flow}
-use Rattle.paths.specs.Paths.{source, target, IsFlow, Inbound, Outgoing}
+use Rattle.paths.specs.Paths.{source, target, Inbound, Outgoing}
 use Rattle.paths.specs.Links.{chosen, entering, leaving, Step, leaders}
 
 -- ---- what was chosen

@@ -1,6 +1,6 @@
 -- How many numbers pass a test.
 use Rattle.std.proofs.Common.{◌≡◌, ℕ, zero, suc, ◌+◌, ◌-◌, ◌<◌, ◌≤◌, Bool, true, false, cond, Decides, sym, refl, ap, ◌∙◌, subst, ⊎_elim, arith}
-use Rattle.std.proofs.lemmas.Bool.{both_ways, cases_eq, cases_lt, true≢false}
+use Rattle.std.proofs.lemmas.Bool.{both_ways, cases_eq, true≢false}
 use Rattle.process.specs.Sets.{tally}
 use Rattle.paths.specs.Paths.{NumberOf}
 use Rattle.paths.specs.Paths.NumberOf.{none, one_more, no_more}

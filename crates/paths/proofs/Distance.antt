@@ -1,12 +1,12 @@
 -- The levels of flows around a flow, how many there can be, and that they tell what the flow reaches.
-use Rattle.std.proofs.Common.{◌≡◌, ℕ, zero, suc, ◌+◌, ◌<◌, ◌≤◌, Bool, true, false, not, ◌&&◌, ◌||◌, ◌⊎◌, List, length, Decides, sym, refl, ap, ◌∙◌, subst, inl, inr, ⊎_elim, le_refl, zero-add, add-one, arith}
+use Rattle.std.proofs.Common.{◌≡◌, ℕ, zero, suc, ◌+◌, ◌<◌, ◌≤◌, true, false, ◌&&◌, ◌⊎◌, List, length, Decides, sym, refl, ap, ◌∙◌, subst, inl, inr, ⊎_elim, le_refl, zero-add, add-one, arith}
 use Rattle.std.proofs.lemmas.Bool.{eqb-true, eq-eqb, cases_Bool, both_ways, and_parts, and_from, or_cases, or_left, or_right, not-true, not_from_false}
 use Rattle.process.specs.declared.flow.Flow.{Flow}
 use Rattle.process.specs.declared.sets.FlowSet.{FlowSet}
-use Rattle.process.specs.Sets.{has, just, joined, shared, is_none, tally}
+use Rattle.process.specs.Sets.{has, just, shared, is_none, tally}
 use Rattle.process.proofs.Membership.{has_one, has-joined, has-shared, none-in-zero, some_in}
-use Rattle.paths.specs.Paths.{source, target, IsFlow, Reaches}
-use Rattle.paths.specs.Links.{chosen, Step, leaders}
+use Rattle.paths.specs.Paths.{IsFlow, Reaches}
+use Rattle.paths.specs.Links.{Step, leaders}
 use Rattle.paths.specs.Tables.{at_place}
 use Rattle.paths.specs.Levels.{comes_after, grown, level}
 use Rattle.paths.proofs.Chosen.{chosen-has, has_chosen, leads, led}

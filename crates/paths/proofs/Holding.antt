@@ -1,11 +1,11 @@
 -- The flows that hold a gateway back, from the tables.
-use Rattle.std.proofs.Common.{◌≡◌, ℕ, ◌+◌, ◌<◌, ◌≤◌, Bool, true, false, not, ◌&&◌, ◌⊎◌, List, length, Decides, sym, refl, ap, ◌∙◌, subst, inl, inr, ⊎_elim, arith}
-use Rattle.std.proofs.lemmas.Bool.{cases_Bool, cases_eq, both_ways, and_parts, and_from, or_cases, or_left, or_right, not-true, not_from_false, true≢false}
+use Rattle.std.proofs.Common.{◌≡◌, ℕ, ◌+◌, ◌<◌, ◌≤◌, Bool, true, false, not, ◌&&◌, ◌⊎◌, List, length, Decides, sym, ap, ◌∙◌, subst, inl, inr, ⊎_elim, arith}
+use Rattle.std.proofs.lemmas.Bool.{cases_Bool, cases_eq, both_ways, and_parts, and_from, or_cases, or_left, or_right, not-true, not_from_false}
 use Rattle.process.specs.declared.flow.Flow.{Flow}
 use Rattle.process.specs.declared.sets.FlowSet.{FlowSet}
 use Rattle.process.specs.Sets.{has, no_flows, joined, shared, without, is_none, tally}
 use Rattle.process.proofs.Membership.{has-no_flows, has-joined, has-shared, has-without, none-in-zero, some_in}
-use Rattle.paths.specs.Paths.{target, IsFlow, Inbound, Reaches, HoldsBack, TokenInbound, PathRule, NumberOf, HoldingNumber}
+use Rattle.paths.specs.Paths.{IsFlow, Inbound, Reaches, HoldsBack, TokenInbound, PathRule, HoldingNumber}
 use Rattle.paths.specs.Tables.{at_place, row, Sources, LeadsTo}
 use Rattle.paths.proofs.Counts.{number-from-tally, tally-above}
 use Rattle.paths.proofs.Lookups.{row_at}

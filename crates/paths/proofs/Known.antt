@@ -1,5 +1,5 @@
 -- What a routing's tables say, out of the truncated fact: paths can be decided.
-use Rattle.std.proofs.Common.{◌≡◌, ℕ, ◌<◌, ◌≤◌, Bool, true, false, ◌⊎◌, List, length, Decides, sym, refl, ap, ◌∙◌, inl, inr, ⊎_elim, arith}
+use Rattle.std.proofs.Common.{◌≡◌, ℕ, ◌≤◌, Bool, true, false, List, length, refl, ap, ⊎_elim, arith}
 use mathlib.Core.HLevel.{⊥_prop}
 use mathlib.Core.Logic.{∥∥₁_elim}
 use Rattle.std.proofs.lemmas.Bool.{cases_Bool, cases_lt, both_ways, true≢false, false≢true}
@@ -9,7 +9,7 @@ use Rattle.process.specs.Sets.{has}
 use Rattle.process.proofs.Membership.{same-sets}
 use Rattle.paths.specs.Paths.{target, IsFlow, Reaches}
 use Rattle.paths.specs.Links.{entering, leaving}
-use Rattle.paths.specs.Tables.{row, Sources, ByNode, Tables}
+use Rattle.paths.specs.Tables.{row, Tables}
 use Rattle.paths.specs.Levels.{level}
 use Rattle.paths.proofs.Walks.{reaching-flow}
 use Rattle.paths.proofs.Distance.{level-decides}

@@ -1,11 +1,11 @@
 -- Why a gateway waits, from the set of the flows that hold it back and the table of reach.
-use Rattle.std.proofs.Common.{◌≡◌, ℕ, zero, suc, ◌+◌, ◌<◌, ◌≤◌, Bool, true, false, not, ◌&&◌, List, length, Decides, sym, refl, ap, ◌∙◌, subst, ⊎_elim, arith}
-use Rattle.std.proofs.lemmas.Bool.{cases_Bool, both_ways, and_parts, and_from, not-true, not_from_false}
+use Rattle.std.proofs.Common.{◌≡◌, ℕ, ◌<◌, ◌≤◌, false, not, ◌&&◌, List, length, Decides, sym, ap, ◌∙◌, subst, arith}
+use Rattle.std.proofs.lemmas.Bool.{both_ways, and_parts, and_from, not-true, not_from_false}
 use Rattle.process.specs.declared.flow.Flow.{Flow}
 use Rattle.process.specs.declared.sets.FlowSet.{FlowSet}
 use Rattle.process.specs.Sets.{has, without, Next}
 use Rattle.process.proofs.Membership.{has-without}
-use Rattle.paths.specs.Paths.{target, IsFlow, Inbound, Reaches, HoldsBack, Route, Why}
+use Rattle.paths.specs.Paths.{Inbound, Reaches, HoldsBack, Route, Why}
 use Rattle.paths.specs.Links.{chosen}
 use Rattle.paths.specs.Tables.{row, Sources}
 use Rattle.paths.specs.Reasons.{LowestEnd}

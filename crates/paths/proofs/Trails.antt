@@ -1,6 +1,6 @@
 -- The path that is written from its end, one flow after the other from level to level.
-use Rattle.std.proofs.Common.{◌≡◌, ℕ, zero, suc, ◌+◌, ◌-◌, ◌<◌, ◌≤◌, Bool, true, false, ◌⊎◌, List, [], ◌∷◌, length, take, drop, set, sym, refl, ap, ◌∙◌, subst, inl, inr, ⊎_elim, le_of_suc-le-suc, not-suc-le-zero, add-one, arith}
-use Rattle.std.proofs.lemmas.Bool.{cases_Bool, both_ways}
+use Rattle.std.proofs.Common.{◌≡◌, ℕ, zero, suc, ◌+◌, ◌-◌, ◌<◌, ◌≤◌, true, false, List, [], ◌∷◌, length, take, drop, set, sym, refl, ap, ◌∙◌, subst, inl, ⊎_elim, le_of_suc-le-suc, not-suc-le-zero, add-one, arith}
+use Rattle.std.proofs.lemmas.Bool.{both_ways}
 use Rattle.process.specs.declared.flow.Flow.{Flow}
 use Rattle.process.specs.Sets.{has}
 use Rattle.paths.specs.Paths.{IsFlow, IsPath, Avoids, Among, NoFlowTwice, Route}

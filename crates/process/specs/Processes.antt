@@ -1,8 +1,7 @@
 -- The numbers in a process, and what one more node or flow makes of it.
-use Rattle.std.specs.Prelude.{ℕ, ◌+◌, Bool, true, false, cond, not, ◌&&◌, List, [], ◌∷◌, ◌++◌, length, ℤ, pos, negsuc, Ok, Err, Result, ◌==◌, int_le, nat_le}
+use Rattle.std.specs.Prelude.{ℕ, ◌+◌, Bool, true, cond, not, ◌&&◌, List, [], ◌∷◌, ◌++◌, length, ℤ, pos, negsuc, Ok, Err, Result, ◌==◌, int_le, nat_le}
 use Rattle.fault.specs.declared.line.LineFault.{LineFault}
 use Rattle.fault.specs.declared.line.LineFault.TheVariants.{Number, Sequence, TooMany, MissingNode}
-use Rattle.process.specs.declared.flow.Condition.{Condition}
 use Rattle.process.specs.declared.flow.Flow.{Flow}
 use Rattle.process.specs.declared.flow.Guard.{Guard}
 use Rattle.process.specs.declared.flow.Guard.TheVariants as guards

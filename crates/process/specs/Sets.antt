@@ -1,5 +1,5 @@
 -- Sets of flows. Flow n is bit n - 1, and there is no flow 0.
-use Rattle.std.specs.Prelude.{◌≡◌, ℕ, zero, suc, ◌+◌, ◌-◌, ◌/◌, ◌%◌, ◌^◌, ◌<◌, ◌≤◌, Bool, true, false, cond, not, ◌&&◌, ◌||◌, List, [], ◌∷◌, length, Decides, Option, MatchOption, ◌==◌, bit_and, bit_or, bit_xor, nat_le}
+use Rattle.std.specs.Prelude.{◌≡◌, ℕ, zero, suc, ◌+◌, ◌-◌, ◌/◌, ◌%◌, ◌^◌, ◌<◌, ◌≤◌, Bool, true, false, cond, not, ◌&&◌, ◌||◌, List, [], ◌∷◌, Decides, MatchOption, ◌==◌, bit_and, bit_or, bit_xor, nat_le}
 use Rattle.std.specs.List.{slice_get}
 use Rattle.process.specs.declared.sets.FlowSet.{FlowSet}
 

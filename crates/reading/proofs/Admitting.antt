@@ -1,5 +1,5 @@
 -- A text is accepted exactly if it is the writing of a sound process.
-use Rattle.std.proofs.Common.{◌≡◌, ℕ, true, List, is_ok, Ok, Err, Decides, Result, sym, refl, ap, ◌∙◌, subst, ⊎_elim}
+use Rattle.std.proofs.Common.{◌≡◌, ℕ, List, is_ok, Ok, Err, Decides, Result, sym, refl, ap, ◌∙◌, subst, ⊎_elim}
 use mathlib.Core.HLevel.{⊥_prop}
 use mathlib.Core.Logic.{∥∥₁_elim, ∥∥₁_map}
 use Rattle.std.proofs.lemmas.Bool.{false≢true}
@@ -10,9 +10,8 @@ use Rattle.model.specs.declared.model.Model.{Model}
 use Rattle.model.specs.Models.{draft_of}
 use Rattle.model.specs.Sound.{Sound, Unsound}
 use Rattle.model.proofs.Judging.{unsound-not, the-fault}
-use Rattle.reading.specs.Lines.{Process, process_read}
+use Rattle.reading.specs.Lines.{Process}
 use Rattle.reading.specs.Readings.{process_of, Refused, TheFaultOf, ModelFilled, ModelRead, Admitted}
-use Rattle.reading.specs.Writings.{Describes}
 use Rattle.reading.proofs.Canonical.{describes, describes-nothing}
 use Rattle.reading.proofs.Forms.{err-not-ok, ok_same}
 

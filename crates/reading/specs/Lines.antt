@@ -1,10 +1,9 @@
 -- The lines of a model text, one after another: `process K`, then the nodes, then the flows.
-use Rattle.std.specs.Prelude.{ℕ, ◌+◌, ◌-◌, cond, List, [], ◌∷◌, length, take, Some, None, Ok, Err, Option, Result, ◌==◌}
+use Rattle.std.specs.Prelude.{ℕ, ◌+◌, ◌-◌, cond, List, [], ◌∷◌, length, take, Some, None, Ok, Err, Result, ◌==◌}
 use Rattle.fault.specs.declared.line.LineFault.{LineFault}
 use Rattle.fault.specs.declared.line.LineFault.TheVariants.{Text, Form}
 use Rattle.fault.specs.declared.text.TextFault.{TextFault}
 use Rattle.process.specs.declared.flow.Flow.{Flow}
-use Rattle.process.specs.declared.flow.Guard.{Guard}
 use Rattle.process.specs.declared.node.Kind.{Kind}
 use Rattle.process.specs.Processes.{node_added, flow_added}
 use Rattle.text.specs.declared.words.Keyword.{Keyword}

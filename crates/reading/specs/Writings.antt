@@ -1,5 +1,5 @@
 -- How a process is written down: line by line, word by word, digit by digit. A process has one writing.
-use Rattle.std.specs.Prelude.{◌≡◌, ℕ, ◌+◌, ◌≤◌, true, List, [], ◌∷◌, ◌++◌, map, length, decimal, ◌≢◌}
+use Rattle.std.specs.Prelude.{◌≡◌, ℕ, ◌+◌, ◌≤◌, true, List, [], ◌∷◌, ◌++◌, length, decimal, ◌≢◌}
 use Rattle.std.specs.Fmt.{signed_decimal}
 use Rattle.process.specs.declared.flow.Flow.{Flow}
 use Rattle.process.specs.declared.flow.Guard.{Guard}

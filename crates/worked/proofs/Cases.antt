@@ -1,5 +1,5 @@
 -- The worked cases, from the rule: the levels around each flow compute the table of reach, and the table who holds a gateway back.
-use Rattle.std.proofs.Common.{◌≡◌, ℕ, zero, suc, ◌+◌, ◌<◌, ◌≤◌, Bool, true, false, cond, not, ◌&&◌, List, [], ◌∷◌, map, length, Ok, Err, Decides, Result, sym, refl, ap, ◌∙◌, subst, add-one, arith, lit≤}
+use Rattle.std.proofs.Common.{◌≡◌, ℕ, zero, suc, ◌+◌, ◌<◌, ◌≤◌, Bool, true, false, cond, not, ◌&&◌, List, [], ◌∷◌, map, length, Ok, Err, Decides, Result, sym, refl, ap, subst, add-one, arith, lit≤}
 use Rattle.std.specs.List.{range_with_len}
 use Rattle.std.proofs.lemmas.List.FromFn.{get_or-map-range_with_len}
 use Rattle.std.proofs.lemmas.Bool.{both_ways, and_from, not_from_false, false≢true}
@@ -11,7 +11,7 @@ use Rattle.process.specs.Processes.{is_node}
 use Rattle.process.specs.Sets.{has, no_flows, just, joined, shared, without, these, is_none, tally}
 use Rattle.process.specs.declared.node.Kind.{Kind}
 use Rattle.model.specs.Rules.{kind_at}
-use Rattle.paths.specs.Paths.{source, target, IsFlow, Inbound, TokenInbound, IsPath, Avoids, Reaches, HoldsBack, PathRule, HoldingNumber, NoFlowTwice, Why}
+use Rattle.paths.specs.Paths.{source, target, Inbound, TokenInbound, IsPath, Avoids, Reaches, HoldsBack, PathRule, HoldingNumber, NoFlowTwice, Why}
 use Rattle.paths.specs.Paths.IsPath.{alone, then}
 use Rattle.paths.specs.Links.{chosen, entering, leaving, leaders}
 use Rattle.paths.specs.Tables.{at_place, row, Sources, LeadsTo}
@@ -19,7 +19,7 @@ use Rattle.paths.specs.Levels.{comes_after, grown, level}
 use Rattle.paths.proofs.Chosen.{chosen-has, has_chosen, entering-decides, leaving-decides}
 use Rattle.paths.proofs.Counts.{none-from-tally}
 use Rattle.paths.proofs.Distance.{level-decides}
-use Rattle.paths.proofs.Holding.{no_token-inbound, lead-none, lead-take, lead-skip, holders-decide, holder-is-flow, number-held, rule-decides}
+use Rattle.paths.proofs.Holding.{no_token-inbound, lead-none, lead-take, lead-skip, holders-decide, number-held, rule-decides}
 use Rattle.paths.proofs.Walks.{reaching-flow}
 use Rattle.choice.specs.Choices.{NoWayOn}
 use Rattle.marking.specs.Nodes.{Ready}

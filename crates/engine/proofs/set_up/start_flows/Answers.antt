@@ -1,7 +1,7 @@
-use Rattle.std.proofs.Common.{◌≡◌, ℕ, ◌+◌, Bool, true, false, List, length, Decides, sym, ap, ◌∙◌, subst, arith}
+use Rattle.std.proofs.Common.{◌≡◌, ℕ, ◌+◌, List, length, Decides, sym, ap, ◌∙◌, subst, arith}
 use Rattle.process.specs.declared.flow.Flow.{Flow}
 use Rattle.process.specs.Sets.{has}
-use Rattle.model.specs.Models.{nodes_of, flows_of}
+use Rattle.model.specs.Models.{nodes_of}
 use Rattle.model.specs.Rules.{kind_at, is_start}
 use Rattle.paths.specs.Links.{chosen}
 use Rattle.paths.proofs.Chosen.{chosen_none, chosen-take, chosen-skip, source-at}

@@ -1,6 +1,6 @@
 use Rattle.graph.proofs.Holding.{holds-from-contains}
 use Rattle.graph.proofs.search.is_found.Goals as goal
-use Rattle.std.proofs.Common.{◌≡◌, refl}
+use Rattle.std.proofs.Common.{refl}
 
 pub returns : goal.returns
 returns g c =

@@ -1,7 +1,6 @@
-use Rattle.std.proofs.Common.{◌≡◌, ◌<◌, ◌≤◌, min, length, take, sym, refl, ap, ◌∙◌, arith}
+use Rattle.std.proofs.Common.{◌≡◌, ◌<◌, min, length, take, sym, refl, ap, ◌∙◌, arith}
 use Rattle.std.proofs.lemmas.List.{take_more, take_more_set, drop-set-lt}
-use Rattle.engine.specs.declared.counts.SetUp.{SetUp}
-use Rattle.history.specs.Histories.{Moment, History}
+use Rattle.history.specs.Histories.{History}
 use Rattle.history.specs.Laws.{New}
 use Rattle.history.proofs.Cuts.{take-shorter}
 use Rattle.history.proofs.Histories.{history-push, history-as}

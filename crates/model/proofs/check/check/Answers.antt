@@ -1,4 +1,4 @@
-use Rattle.std.proofs.Common.{◌≡◌, Err, sym, ap, ◌∙◌, arith}
+use Rattle.std.proofs.Common.{Err, sym, ap, ◌∙◌, arith}
 use Rattle.model.proofs.Checks.{checked-more, checked-stop}
 use Rattle.model.proofs.check.check.Goals as goal
 

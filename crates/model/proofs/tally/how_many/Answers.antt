@@ -1,4 +1,4 @@
-use Rattle.std.proofs.Common.{◌≡◌, true, false, arith}
+use Rattle.std.proofs.Common.{true, false, arith}
 use Rattle.model.proofs.Tallies.{tally-more, tally-all}
 use Rattle.model.proofs.tally.how_many.Goals as goal
 use Rattle.model.proofs.tally.how_many.Goals.{then-passes, else-passes}

@@ -1,4 +1,4 @@
-use Rattle.std.proofs.Common.{◌≡◌, ℕ, ◌+◌, ◌<◌, ◌≤◌, false, length, replicate, sym, refl, ap, ◌∙◌, le_refl, arith, length-set, below_more}
+use Rattle.std.proofs.Common.{◌≡◌, ◌+◌, ◌<◌, false, length, replicate, sym, refl, ap, ◌∙◌, le_refl, arith, length-set, below_more}
 use Rattle.process.specs.declared.sets.FlowSet.{FlowSet}
 use Rattle.process.specs.Sets.{has}
 use Rattle.paths.specs.Levels.{level, grown}

@@ -1,4 +1,4 @@
-use Rattle.std.proofs.Common.{◌≡◌, ℕ, ◌-◌, ◌≤◌, get_or, sym, ap, ◌∙◌, inl, inr, ⊎_elim, arith}
+use Rattle.std.proofs.Common.{ℕ, ◌-◌, ◌≤◌, get_or, sym, ap, ◌∙◌, inl, inr, ⊎_elim, arith}
 use Rattle.process.specs.declared.flow.Flow.{Flow}
 use Rattle.model.specs.Rules.{no_flow}
 use Rattle.model.proofs.Checks.{no-flow-there}

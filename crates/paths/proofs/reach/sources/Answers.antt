@@ -1,4 +1,4 @@
-use Rattle.std.proofs.Common.{◌≡◌, ℕ, ◌<◌, ◌≤◌, length, Decides, refl, arith, length-set}
+use Rattle.std.proofs.Common.{ℕ, ◌<◌, ◌≤◌, length, Decides, refl, arith, length-set}
 use Rattle.process.specs.declared.sets.FlowSet.{FlowSet}
 use Rattle.process.specs.Sets.{has}
 use Rattle.paths.specs.Paths.{target, Reaches}

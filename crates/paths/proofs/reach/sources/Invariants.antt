@@ -1,4 +1,4 @@
-use Rattle.std.proofs.Common.{◌≡◌, ℕ, ◌<◌, ◌≤◌, length, Decides}
+use Rattle.std.proofs.Common.{◌≡◌, ℕ, ◌≤◌, length, Decides}
 use Rattle.process.specs.Sets.{has}
 use Rattle.paths.specs.Paths.{target, Reaches}
 use Rattle.paths.specs.Tables.{row}

@@ -1,5 +1,4 @@
-use Rattle.std.proofs.Common.{◌≡◌, ℕ, ◌-◌, List, [], ◌∷◌, get_or, take, Decides, sym, ap, ◌∙◌, subst, arith}
-use Rattle.graph.specs.Reach.{MoreThan}
+use Rattle.std.proofs.Common.{◌≡◌, ℕ, ◌-◌, get_or, take, Decides, sym, ap, ◌∙◌, subst, arith}
 use Rattle.process.specs.Sets.{has, these}
 use Rattle.model.specs.Rules.{no_flow}
 use Rattle.paths.specs.Paths.{target, Reaches}

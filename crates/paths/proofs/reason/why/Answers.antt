@@ -1,4 +1,4 @@
-use Rattle.std.proofs.Common.{◌≡◌, ℕ, ◌+◌, List, take, sym, refl, ap, ◌∙◌, subst, arith}
+use Rattle.std.proofs.Common.{◌+◌, List, take, sym, refl, ap, ◌∙◌, subst, arith}
 use Rattle.process.specs.declared.flow.Flow.{Flow}
 use Rattle.process.proofs.Ordered.{next-some, next-none}
 use Rattle.model.specs.Models as models

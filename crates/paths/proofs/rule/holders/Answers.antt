@@ -1,4 +1,4 @@
-use Rattle.std.proofs.Common.{◌≡◌, ℕ, Decides, ap, ◌∙◌, subst}
+use Rattle.std.proofs.Common.{ℕ, Decides, ap, ◌∙◌, subst}
 use Rattle.process.specs.declared.sets.FlowSet.{FlowSet}
 use Rattle.process.specs.Sets.{has, without}
 use Rattle.paths.specs.Routings.{model_of, flows_of, sources_of}

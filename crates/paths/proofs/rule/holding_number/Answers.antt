@@ -1,4 +1,4 @@
-use Rattle.std.proofs.Common.{◌≡◌, sym, subst}
+use Rattle.std.proofs.Common.{sym, subst}
 use Rattle.paths.specs.Paths.{HoldingNumber}
 use Rattle.paths.specs.Routings.{model_of, flows_of}
 use Rattle.paths.proofs.Holding.{number-held}

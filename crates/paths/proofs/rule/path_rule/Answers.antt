@@ -1,4 +1,4 @@
-use Rattle.std.proofs.Common.{◌≡◌, Bool, Decides, sym, ap, ◌∙◌, subst}
+use Rattle.std.proofs.Common.{Bool, Decides, sym, ◌∙◌, subst}
 use Rattle.std.proofs.lemmas.Bool.{false≢true}
 use Rattle.paths.specs.Paths.{PathRule}
 use Rattle.paths.specs.Routings.{model_of, flows_of}

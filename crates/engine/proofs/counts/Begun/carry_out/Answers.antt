@@ -1,4 +1,4 @@
-use Rattle.std.proofs.Common.{◌≡◌, ℕ, ◌+◌, List, set, refl, ap, ◌∙◌}
+use Rattle.std.proofs.Common.{ℕ, ◌+◌, set, refl, ap, ◌∙◌}
 use Rattle.process.specs.Sets.{joined, without}
 use Rattle.marking.specs.declared.marking.Marking.{Marking}
 use Rattle.marking.specs.Markings.{tokens_of}

@@ -1,5 +1,4 @@
 use Rattle.std.proofs.Common.{◌≡◌, ℕ, length, sym, ap, ◌∙◌}
-use Rattle.process.specs.declared.node.Kind.{Kind}
 use Rattle.process.specs.declared.node.Kind.TheVariants.{Task}
 use Rattle.model.specs.declared.model.Model.{Model}
 use Rattle.model.specs.Models.{nodes_of}

@@ -1,6 +1,5 @@
-use Rattle.std.proofs.Common.{◌≡◌, ℕ, ◌<◌, true, false, Option, sym, ap, ◌∙◌, subst, MatchOption}
-use Rattle.std.proofs.lemmas.Bool.{false≢true, both_ways}
-use Rattle.fault.specs.declared.count.CountFault.{CountFault}
+use Rattle.std.proofs.Common.{◌≡◌, ℕ, ◌<◌, Option, sym, ap, ◌∙◌, subst, MatchOption}
+use Rattle.std.proofs.lemmas.Bool.{both_ways}
 use Rattle.fault.specs.declared.count.CountFault.TheVariants as faults
 use Rattle.fault.specs.declared.service.ServiceFault.TheVariants as services
 use Rattle.process.specs.declared.sets.FlowSet.{FlowSet}

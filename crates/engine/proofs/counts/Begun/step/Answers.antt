@@ -1,8 +1,8 @@
-use Rattle.std.proofs.Common.{◌≡◌, ℕ, true, false, length, sym, refl, ap, ◌∙◌, subst}
+use Rattle.std.proofs.Common.{ℕ, refl, subst}
 use Rattle.std.proofs.lemmas.Result.{err_from_is_err_and}
 use Rattle.std.proofs.lemmas.Bool.{both_ways}
 use Rattle.engine.specs.Counts.{IsReady}
-use Rattle.engine.specs.Steps.{Room, Hinders}
+use Rattle.engine.specs.Steps.{Hinders}
 use Rattle.engine.specs.Steps.Refuses.{no_node, not_ready, no_room, hindered}
 use Rattle.engine.proofs.counts.Begun.step.Goals as goal
 

@@ -1,8 +1,5 @@
-use Rattle.std.proofs.Common.{◌≡◌, ℕ, ◌≤◌, sym, ap, ◌∙◌, arith}
-use Rattle.process.specs.declared.node.Kind.TheVariants.{Task}
-use Rattle.model.specs.declared.model.Model.{Model}
-use Rattle.model.specs.Models.{nodes_of, draft_of}
-use Rattle.model.specs.Rules.{kind_at}
+use Rattle.std.proofs.Common.{sym, ◌∙◌, arith}
+use Rattle.model.specs.Models.{draft_of}
 use Rattle.engine.proofs.Tasks.{task-figure}
 use Rattle.engine.proofs.counts.Begun.take_answer.Goals as goal
 

@@ -1,4 +1,4 @@
-use Rattle.std.proofs.Common.{◌≡◌, ◌∙◌}
+use Rattle.std.proofs.Common.{◌∙◌}
 use Rattle.model.proofs.Reaching.{member-any}
 use Rattle.model.proofs.reached.FoundRuleRule.keeps.Goals as goal
 

@@ -1,6 +1,5 @@
-use Rattle.std.proofs.Common.{◌≡◌, ℕ, List, ap, ◌∙◌, subst}
+use Rattle.std.proofs.Common.{List, ap, ◌∙◌, subst}
 use Rattle.process.specs.declared.flow.Flow.{Flow}
-use Rattle.model.specs.Models.{flows_of}
 use Rattle.paths.specs.Links.{entering, leaving}
 use Rattle.paths.specs.Tables.{Sources}
 use Rattle.paths.proofs.Nodes.{entering-everywhere, leaving-everywhere}

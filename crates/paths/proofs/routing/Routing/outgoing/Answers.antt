@@ -1,4 +1,4 @@
-use Rattle.std.proofs.Common.{◌≡◌, ℕ, Decides, sym, ◌∙◌, subst}
+use Rattle.std.proofs.Common.{Decides, sym, ◌∙◌, subst}
 use Rattle.process.specs.declared.sets.FlowSet.{FlowSet}
 use Rattle.process.specs.Sets.{has}
 use Rattle.paths.specs.Paths.{Outgoing}

@@ -1,4 +1,4 @@
-use Rattle.std.proofs.Common.{◌≡◌, ◌∙◌, inl, inr, ⊎_elim, arith}
+use Rattle.std.proofs.Common.{◌∙◌, inl, inr, ⊎_elim, arith}
 use Rattle.paths.proofs.Lookups.{no_row}
 use Rattle.paths.proofs.routing.methods.of_node.Goals as goal
 

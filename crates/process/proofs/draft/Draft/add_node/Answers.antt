@@ -1,4 +1,4 @@
-use Rattle.std.proofs.Common.{◌≡◌, sym, ap, ◌∙◌, arith}
+use Rattle.std.proofs.Common.{sym, ap, ◌∙◌, arith}
 use Rattle.process.specs.Processes.{well_formed}
 use Rattle.process.specs.Rows.{items}
 use Rattle.process.proofs.Formed.{formed-node, pushed}

@@ -1,4 +1,4 @@
-use Rattle.std.proofs.Common.{◌^◌, ◌<◌, sym, ◌∙◌, rules}
+use Rattle.std.proofs.Common.{sym, ◌∙◌, rules}
 use Rattle.process.proofs.Membership.{range-parts, none-outside, digit-test}
 use Rattle.process.proofs.sets.FlowSet.contains.Goals as goal
 

@@ -1,4 +1,4 @@
-use Rattle.std.proofs.Common.{◌^◌, ◌<◌, rules}
+use Rattle.std.proofs.Common.{rules}
 use Rattle.process.proofs.Membership.{ones-tally}
 use Rattle.process.proofs.sets.FlowSet.len.Goals as goal
 
