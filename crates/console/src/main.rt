@@ -8,7 +8,7 @@ mod files;
 use fault::console::ConsoleFault;
 use files::read_text;
 use model::model::Model;
-use reading::model::read_model;
+use reading::model_text::read_model;
 use service::order_file::OrderFile;
 use std::io;
 

@@ -9,7 +9,7 @@ use process::draft::Draft;
 use process::flow::Guard;
 use process::node::Kind;
 use process::sets::FlowSet;
-use reading::model::read_model;
+use reading::model_text::read_model;
 
 /// Node 3 splits three ways, and the inclusive gateway 6 joins them.
 pub const PROCESS_7: &[u8] =

@@ -4,5 +4,5 @@
 
 mod fields;
 pub mod lines;
-pub mod model;
+pub mod model_text;
 pub mod order;

@@ -5,7 +5,7 @@
 mod tests {
     use model::model::Model;
     use process::node::Kind;
-    use reading::model::read_model;
+    use reading::model_text::read_model;
     use std::alloc::{AllocError, Global};
     use std::test::Fail;
 

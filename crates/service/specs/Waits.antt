@@ -1,6 +1,6 @@
 -- The answers that still wait for each node, oldest first: what a service is known by.
 use Rattle.std.specs.Prelude.{◌≡◌, ℕ, zero, suc, ◌+◌, true, cond, not, List, [], ◌∷◌, ◌++◌, length, Ok, Err, Result, ◌==◌, nat_le}
-use Rattle.std.specs.List.{AllByRecursion as All}
+use Rattle.std.specs.List.{AllByRecursion}
 use Rattle.fault.specs.declared.service.ServiceFault.{ServiceFault}
 use Rattle.fault.specs.declared.service.ServiceFault.TheVariants.{NodeNumber, Value, Full, NoAnswer}
 use Rattle.process.specs.Processes.{is_node_number}
@@ -11,7 +11,7 @@ abbrev pub Waits : Type 0
 Waits = ℕ → List Answer
 
 abbrev pub Ranged : List Answer → Type 0
-Ranged answers = All (λ a. in_range a ≡ true) answers
+Ranged answers = AllByRecursion (λ a. in_range a ≡ true) answers
 
 -- the oldest of the answers that wait for node n
 abbrev pub oldest : List Answer → ℕ → Result Answer ServiceFault

@@ -1,5 +1,5 @@
 use Rattle.reading.proofs.Admitting.{model-read, model-exact}
-use Rattle.reading.proofs.model.read_model.Goals as goal
+use Rattle.reading.proofs.model_text.read_model.Goals as goal
 
 pub returns : goal.returns
 returns c =
