@@ -58,7 +58,7 @@ mod tests {
                     text: b"process 65535\nnode 1 start\nnode 2 or\nnode 3 task v16\nnode 4 task v2\nnode 5 end\nnode 6 end\nflow 1 1 2\nflow 2 2 3 if v16 <> -1000000000\nflow 3 2 4 if v1 = 1000000000\nflow 4 3 5\nflow 5 4 6\n",
                     fault: (0, 0, 0),
                 },
-            ],),
+            ]),
             0
         );
     }
@@ -83,7 +83,7 @@ mod tests {
                     text: b"process 7",
                     fault: (13, 1, 9),
                 },
-            ],),
+            ]),
             0
         );
     }
@@ -153,7 +153,7 @@ mod tests {
                     text: b"process v1\n",
                     fault: (21, 2, 1),
                 },
-            ],),
+            ]),
             0
         );
     }
@@ -215,7 +215,7 @@ mod tests {
                     text: b"process 1\nnode 1 start\nnode 2 end\nflow 9 1 70000\n",
                     fault: (22, 2, 4),
                 },
-            ],),
+            ]),
             0
         );
     }
@@ -248,7 +248,7 @@ mod tests {
                     text: b"process 1\nflow 1 1 2\n",
                     fault: (25, 2, 2),
                 },
-            ],),
+            ]),
             0
         );
     }
@@ -285,7 +285,7 @@ mod tests {
                     text: b"process 1\nnode 1 start\nnode 2 end\nnode 3 and\nflow 1 1 2\nflow 2 3 3\n",
                     fault: (33, 3, 2),
                 },
-            ],),
+            ]),
             0
         );
     }
@@ -326,7 +326,7 @@ mod tests {
                     text: b"process 1\nnode 1 start\nnode 2 end\nnode 3 xor\nnode 4 xor\nflow 1 1 2\nflow 2 3 4\nflow 3 4 3\n",
                     fault: (36, 3, 3),
                 },
-            ],),
+            ]),
             0
         );
     }
@@ -393,7 +393,7 @@ mod tests {
     fn a_refused_text_leaves_the_place(rt: HostRuntime) {
         let mut place = Model::new();
         assert_eq!(rt; place.number(), 1);
-        assert_eq!(rt; place.nodes(), &[Kind::Start, Kind::End]);
+        assert_eq!(rt; place.nodes(), [Kind::Start, Kind::End].as_slice());
         assert!(rt;
             read_model(
                 &mut place,
