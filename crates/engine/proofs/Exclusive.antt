@@ -7,7 +7,7 @@ use Rattle.service.specs.Waits.{Waits}
 use Rattle.engine.specs.declared.counts.Begun.{Begun}
 use Rattle.engine.specs.declared.run.Stop.{Stop}
 use Rattle.engine.specs.Questions.{NoReason}
-use Rattle.engine.specs.Runs.{CanGo, Goes_on, Stops}
+use Rattle.engine.specs.Runs.{CanGo, GoesOn, Stops}
 use Rattle.engine.specs.Steps.{Room, IsOccupied, Hinders, Refuses}
 use Rattle.engine.specs.Verdicts.{OneVerdict}
 use Rattle.engine.proofs.Turns.{hinders-blocks}
@@ -81,7 +81,7 @@ one_stop (Stops.full token goes left no_room) (Stops.held token' ready' idle') =
 one_stop (Stops.full token goes left no_room) (Stops.spent token' goes' all') = absurd (omega (arith, all', left))
 one_stop (Stops.full token goes left no_room) (Stops.full token' goes' left' no-room') = refl
 
-no_stop : {b : Begun} {places : ℕ} {waits : Waits} {budget k n : ℕ} {stop : Stop} → Stops b places waits budget k stop → Goes_on b places waits budget k n → ⊥
+no_stop : {b : Begun} {places : ℕ} {waits : Waits} {budget k n : ℕ} {stop : Stop} → Stops b places waits budget k stop → GoesOn b places waits budget k n → ⊥
 no_stop (Stops.finished none) g = both_ways _ (none g.token.0) g.token.1
 no_stop {n = n} (Stops.resting token unready) g = unready n g.lowest.goes.passes.node g.lowest.goes.passes.ready
 no_stop {n = n} (Stops.held token ready idle) g = idle n g.lowest.goes

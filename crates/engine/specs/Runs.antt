@@ -58,7 +58,7 @@ pub data Stops (b : Begun) (places : ℕ) (waits : Waits) (budget k : ℕ) : Sto
   full : SomeToken b → SomeToGo b waits → k < budget → (Room b places → ⊥) → Stops b places waits budget k stops.JournalFull
 
 -- a run goes on with node n after k steps of a budget: no reason to stop applies, and n is the lowest node that can go
-pub record Goes_on (b : Begun) (places : ℕ) (waits : Waits) (budget k n : ℕ) : Type 0 where
+pub record GoesOn (b : Begun) (places : ℕ) (waits : Waits) (budget k n : ℕ) : Type 0 where
   pub token : SomeToken b
   pub lowest : LowestToGo b waits n
   pub budgeted : k < budget
@@ -66,13 +66,13 @@ pub record Goes_on (b : Begun) (places : ℕ) (waits : Waits) (budget k n : ℕ)
 
 -- the turn that a run makes next
 pub record NextTurn (b : Begun) (places : ℕ) (waits : Waits) (budget k : ℕ) (t : Turn) : Type 0 where
-  pub goes : Goes_on b places waits budget k t.node
+  pub goes : GoesOn b places waits budget k t.node
   pub clear : Clear b waits t.node t.movement
 
 -- k steps, one after another, each of the lowest node that can go, within the budget
 pub data Runs (budget : ℕ) (b : Begun) (journal : List Line) (waits : Waits) : ℕ → Begun → List Line → Waits → Type 0 where
   still : Runs budget b journal waits 0 b journal waits
-  again : {k n : ℕ} {l : Line} {b₁ b₂ : Begun} {journal₁ journal₂ : List Line} {waits₁ waits₂ : Waits} → Runs budget b journal waits k b₁ journal₁ waits₁ → Goes_on b₁ (length journal₁) waits₁ budget k n → Went b₁ journal₁ waits₁ n l b₂ journal₂ waits₂ → Runs budget b journal waits (k + 1) b₂ journal₂ waits₂
+  again : {k n : ℕ} {l : Line} {b₁ b₂ : Begun} {journal₁ journal₂ : List Line} {waits₁ waits₂ : Waits} → Runs budget b journal waits k b₁ journal₁ waits₁ → GoesOn b₁ (length journal₁) waits₁ budget k n → Went b₁ journal₁ waits₁ n l b₂ journal₂ waits₂ → Runs budget b journal waits (k + 1) b₂ journal₂ waits₂
 
 pub record Ran (b : Begun) (journal : List Line) (waits : Waits) (budget k : ℕ) (stop : Stop) (b' : Begun) (journal' : List Line) (waits' : Waits) : Type 0 where
   pub steps : Runs budget b journal waits k b' journal' waits'

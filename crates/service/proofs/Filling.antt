@@ -12,7 +12,7 @@ use Rattle.service.specs.Entries.{answers_for, all_sound}
 use Rattle.service.specs.OrderFiles.{ordered, order_waits}
 use Rattle.service.specs.Piles.{waits_in}
 use Rattle.service.specs.Waits.{added, waiting_in_all, put_verdict, Put}
-use Rattle.service.specs.EntriesLemmas.{answers_push, waiting-entries}
+use Rattle.service.proofs.Entries.{answers_push, waiting-entries}
 use Rattle.service.proofs.Verdicts.{verdict-room}
 
 sound-front : (os : List OrderLine) (i : ℕ) → orders_in_range os ≡ true → all_sound (map ordered (take i os)) ≡ true

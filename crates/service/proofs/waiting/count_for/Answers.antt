@@ -1,7 +1,7 @@
 use Rattle.std.proofs.Common.{◌<◌, length, pos, ap, arith}
 use Rattle.service.specs.Answers.{answer}
 use Rattle.service.specs.Entries.{entry}
-use Rattle.service.specs.EntriesLemmas.{count-more, count-other, none_left}
+use Rattle.service.proofs.Entries.{count-more, count-other, none_left}
 use Rattle.service.proofs.waiting.count_for.Goals as goal
 use Rattle.service.proofs.waiting.count_for.Goals.{then-entry-node, else-entry-node}
 

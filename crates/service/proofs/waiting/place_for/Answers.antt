@@ -1,7 +1,7 @@
 use Rattle.std.proofs.Common.{pos, arith}
 use Rattle.service.specs.Answers.{answer}
 use Rattle.service.specs.Entries.{entry}
-use Rattle.service.specs.EntriesLemmas.{place_here, place-more, place_none}
+use Rattle.service.proofs.Entries.{place_here, place-more, place_none}
 use Rattle.service.proofs.waiting.place_for.Goals as goal
 
 pub returns-then-entry-node : goal.returns-then-entry-node

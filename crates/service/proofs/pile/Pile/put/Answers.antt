@@ -3,7 +3,7 @@ use Rattle.std.proofs.lemmas.Bool.{and_from}
 use Rattle.process.specs.Rows.{items}
 use Rattle.process.proofs.Formed.{pushed}
 use Rattle.service.specs.Entries.{entry, answers_for, all_sound}
-use Rattle.service.specs.EntriesLemmas.{sound-push, answers_push, waiting-entries}
+use Rattle.service.proofs.Entries.{sound-push, answers_push, waiting-entries}
 use Rattle.service.proofs.Verdicts.{verdict-full, verdict-room}
 use Rattle.service.proofs.pile.Pile.put.Goals as goal
 

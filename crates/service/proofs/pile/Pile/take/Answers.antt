@@ -1,7 +1,7 @@
 use Rattle.std.proofs.Common.{Some, None, sym, ap, ◌∙◌}
 use Rattle.process.specs.Rows.{items}
 use Rattle.service.specs.Entries.{place_for, all_sound}
-use Rattle.service.specs.EntriesLemmas.{taken_out, sound-removed}
+use Rattle.service.proofs.Entries.{taken_out, sound-removed}
 use Rattle.service.proofs.pile.Pile.take.Goals as goal
 
 pub invariant_of-self : goal.invariant_of-self

@@ -7,7 +7,7 @@ use Rattle.service.specs.declared.pile.Pile.{Pile}
 use Rattle.service.specs.Answers.{answer}
 use Rattle.service.specs.Piles.{waits_in, waits_on}
 use Rattle.service.specs.Waits.{put_verdict, Put}
-use Rattle.service.specs.EntriesLemmas.{waiting-entries}
+use Rattle.service.proofs.Entries.{waiting-entries}
 use Rattle.service.proofs.tray.Tray.put.Goals as goal
 
 -- what happens to the pile happens to the tray
