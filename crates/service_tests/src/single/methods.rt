@@ -1,5 +1,5 @@
 ghost use Rattle.service_tests.specs.Waiting.{waits_for};
-ghost use Rattle.std.proofs.Common.{rules, arith};
+ghost use Rattle.std.proofs.Common.{rules};
 
 use super::Single;
 use fault::service::ServiceFault;
@@ -26,9 +26,9 @@ impl Single {
 impl Service for Single {
     ghost waits = { waits_for };
 
-    ghost ranged = { first_of (Prim.search rules, Prim.grind (arith, Self.row.coded.inj)) };
+    ghost ranged = { Prim.search rules };
 
-    ghost numbered = { first_of (Prim.search rules, Prim.grind (arith, Self.row.coded.inj)) };
+    ghost numbered = { Prim.search rules };
 
     fn waiting(&self, node: u16) -> usize {
         if node == self.node && self.answer.is_some() {
