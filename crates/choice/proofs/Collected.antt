@@ -1,82 +1,81 @@
--- Sets of the flows that have a property, collected flow by flow.
-use Rattle.std.proofs.Common.{◌≡◌, ℕ, ◌+◌, ◌<◌, ◌≤◌, Bool, ◌||◌, eqb, List, length, get_or, Decides, sym, ap, ◌∙◌, subst, ⊎_elim, add-one, arith}
-use Rattle.std.proofs.lemmas.Bool.{eqb-true, eq-eqb, cases_eq, both_ways, or_cases, or_left, or_right}
+-- The set of the flows that leave a node and pass a test, collected flow by flow.
+use Rattle.std.proofs.Common.{◌≡◌, ℕ, ◌+◌, ◌<◌, ◌≤◌, Bool, true, false, ◌||◌, eqb, List, get_or, sym, refl, ap, ◌∙◌, subst, ⊎_elim, add-one, arith}
+use Rattle.std.proofs.lemmas.Bool.{eqb-true, eq-eqb, ne_eqb, cases_eq, cases_Bool, both_ways, or_cases, or_right}
 use Rattle.process.specs.declared.flow.Flow.{Flow}
 use Rattle.process.specs.declared.flow.Guard.{Guard}
 use Rattle.process.specs.declared.sets.FlowSet.{FlowSet}
 use Rattle.process.specs.Sets.{has, no_flows, just, joined}
 use Rattle.process.proofs.Membership.{has-no_flows, has_one, has-joined}
 use Rattle.model.specs.Rules.{flow_at, no_flow}
-use Rattle.paths.specs.Paths.{source, Outgoing}
+use Rattle.paths.specs.Paths.{source}
 use Rattle.paths.proofs.Chosen.{source-at}
 
--- the set s has exactly those of the flows 1 to i that have the property P
-abbrev pub Collected : (ℕ → Type 0) → ℕ → FlowSet → Type 0
-Collected P i s = (f : ℕ) → Decides (has s f) ((1 ≤ f) × (f ≤ i) × P f)
+-- Of the flows 1 to i, the set s has only such as leave the node, and of each of these the test told whether s has it.
+pub record Tested (flows : List Flow) (node : ℕ) (Told : Guard → Bool → Type 0) (i : ℕ) (s : FlowSet) : Type 0 where
+  pub leave : (f : ℕ) → has s f ≡ true → (1 ≤ f) × (f ≤ i) × (source flows f ≡ node)
+  pub told : (f : ℕ) → 1 ≤ f → f ≤ i → source flows f ≡ node → Told (flow_at flows f).guard (has s f)
 
 -- no flow was looked at
-pub collected-none : (P : ℕ → Type 0) (s : FlowSet) → s ≡ no_flows → Collected P 0 s
-collected-none P s e f = (
-  λ h. absurd (both_ways _ (ap (λ (t : FlowSet). has t f) e ∙ has-no_flows f) h),
-  λ p. absurd (omega (arith, p.0, p.1)),
-)
+pub tested-none : (flows : List Flow) (node : ℕ) (Told : Guard → Bool → Type 0) (s : FlowSet) → s ≡ no_flows → Tested flows node Told 0 s
+tested-none flows node Told s e = record { leave = λ f h. absurd (both_ways _ (ap (λ (t : FlowSet). has t f) e ∙ has-no_flows f) h); told = λ f low high. absurd (omega arith) }
 
--- the next flow has the property, and is put in
-pub collected-take : (P : ℕ → Type 0) (i : ℕ) (s t : FlowSet) → i < 64 → t ≡ joined s (just (i + 1)) → P (i + 1) → Collected P i s → Collected P (i + 1) t
-collected-take P i s t few e here old f = (
-  λ h.
-      ⊎_elim (λ was. let p = (old f).0 was in (p.0, omega (arith, p.1), p.2))
-      (λ q. let same = eqb-true f (i + 1) q in (omega arith, omega arith, subst P (sym same) here))
-      (or_cases (has s f) (eqb f (i + 1)) (sym member ∙ h)),
-  λ p.
-      member
-      ∙ ⊎_elim (λ same. or_right _ _ (eq-eqb f (i + 1) same)) (λ ne. or_left _ _ ((old f).1 (p.0, omega (arith, p.1), p.2)))
-      (cases_eq f (i + 1)),
-)
-  where
-    member : has t f ≡ (has s f || eqb f (i + 1))
-    member =
-        ap (λ (x : FlowSet). has x f) e ∙ has-joined s (just (i + 1)) f
-        ∙ ap (λ (b : Bool). has s f || b) (has_one (i + 1) f (omega arith) (omega arith))
-
--- the next flow does not have the property, and the set stays
-pub collected-skip : (P : ℕ → Type 0) (i : ℕ) (s t : FlowSet) → t ≡ s → (P (i + 1) → ⊥) → Collected P i s → Collected P (i + 1) t
-collected-skip P i s t e not-here old f = (
-  λ h. let p = (old f).0 (sym member ∙ h) in (p.0, omega (arith, p.1), p.2),
-  λ p.
-      ⊎_elim (λ same. absurd (not-here (subst P same p.2))) (λ ne. member ∙ (old f).1 (p.0, omega (arith, p.1), p.2)) (cases_eq f (i + 1)),
-)
-  where
-    member : has t f ≡ has s f
-    member = ap (λ (x : FlowSet). has x f) e
-
--- ---- the flows of a node by their guards
-
-module _ (flows : List Flow) (node : ℕ) (G : Guard → Type 0) where
-  -- flow f leaves the node, and its guard is as G says
-  abbrev pub LeavesWith : ℕ → Type 0
-  LeavesWith f = (source flows f ≡ node) × G (flow_at flows f).guard
-
+module _ (flows : List Flow) (node : ℕ) (Told : Guard → Bool → Type 0) (i : ℕ) (s : FlowSet) (old : Tested flows node Told i s) where
   -- the guard of the flow at place i
-  guard-at : (i : ℕ) → (flow_at flows (i + 1)).guard ≡ (get_or flows i no_flow).guard
-  guard-at i = ap (λ (n : ℕ). (flow_at flows n).guard) (add-one i)
+  guard-at : (flow_at flows (i + 1)).guard ≡ (get_or flows i no_flow).guard
+  guard-at = ap (λ (n : ℕ). (flow_at flows n).guard) (add-one i)
 
-  -- the flow at place i is one of these
-  pub leaves-here : (i : ℕ) → (get_or flows i no_flow).from ≡ node → G (get_or flows i no_flow).guard → LeavesWith (i + 1)
-  leaves-here i from holds = (source-at flows i ∙ from, subst G (sym (guard-at i)) holds)
+  -- the set has not the next flow yet
+  not-yet : has s (i + 1) ≡ false
+  not-yet = ⊎_elim (λ t. let p = old.leave (i + 1) t in absurd (omega (arith, p.1))) (λ z. z) (cases_Bool (has s (i + 1)))
 
-  -- it leaves another node
-  pub not-from-here : (i : ℕ) → ((get_or flows i no_flow).from ≡ node → ⊥) → LeavesWith (i + 1) → ⊥
-  not-from-here i other p = other (sym (source-at flows i) ∙ p.0)
+  -- the set with the next flow
+  member : i < 64 → (f : ℕ) → has (joined s (just (i + 1))) f ≡ (has s f || eqb f (i + 1))
+  member few f = has-joined s (just (i + 1)) f ∙ ap (λ (b : Bool). has s f || b) (has_one (i + 1) f (omega arith) (omega arith))
 
-  -- its guard is not as G says
-  pub not-guarded-here : (i : ℕ) → (G (get_or flows i no_flow).guard → ⊥) → LeavesWith (i + 1) → ⊥
-  not-guarded-here i other p = other (subst G (guard-at i) p.1)
+  or-none : (b : Bool) → (b || false) ≡ b
+  or-none true = refl
+  or-none false = refl
 
-  -- every flow was looked at
-  pub collected-all : (i : ℕ) (s : FlowSet) → i ≡ length flows → Collected LeavesWith i s
-      → (f : ℕ) → Decides (has s f) (Outgoing flows node f × G (flow_at flows f).guard)
-  collected-all i s all c f = (
-    λ h. let p = (c f).0 h in (((p.0, omega (arith, p.1)), p.2.0), p.2.1),
-    λ o. (c f).1 (o.0.0.0, omega (arith, o.0.0.1), (o.0.1, o.1)),
-  )
+  others : i < 64 → (f : ℕ) → (f ≡ i + 1 → ⊥) → has (joined s (just (i + 1))) f ≡ has s f
+  others few f ne = member few f ∙ ap (λ (b : Bool). has s f || b) (ne_eqb f (i + 1) ne) ∙ or-none (has s f)
+
+  -- the next flow leaves the node and passes
+  pub tested-take : i < 64 → (get_or flows i no_flow).from ≡ node → Told (get_or flows i no_flow).guard true → Tested flows node Told (i + 1) (joined s (just (i + 1)))
+  tested-take few from passes =
+      record {
+        leave = λ f h.
+            ⊎_elim (λ was. let p = old.leave f was in (p.0, omega (arith, p.1), p.2))
+            (λ q. let same = eqb-true f (i + 1) q in (omega arith, omega arith, ap (source flows) same ∙ source-at flows i ∙ from))
+            (or_cases (has s f) (eqb f (i + 1)) (sym (member few f) ∙ h));
+        told = λ f low high leaves.
+            ⊎_elim
+            (λ same.
+            let here : has (joined s (just (i + 1))) f ≡ true = member few f ∙ or_right _ _ (eq-eqb f (i + 1) same) in
+            let guard : (flow_at flows f).guard ≡ (get_or flows i no_flow).guard = ap (λ (n : ℕ). (flow_at flows n).guard) same ∙ guard-at in
+            subst (λ (b : Bool). Told (flow_at flows f).guard b) (sym here) (subst (λ (g : Guard). Told g true) (sym guard) passes))
+            (λ ne. subst (λ (b : Bool). Told (flow_at flows f).guard b) (sym (others few f ne)) (old.told f low (omega arith) leaves))
+            (cases_eq f (i + 1));
+      }
+
+  -- the next flow leaves another node
+  pub tested-elsewhere : ((get_or flows i no_flow).from ≡ node → ⊥) → Tested flows node Told (i + 1) s
+  tested-elsewhere other =
+      record {
+        leave = λ f h. let p = old.leave f h in (p.0, omega (arith, p.1), p.2);
+        told = λ f low high leaves.
+            ⊎_elim (λ same. absurd (other (sym (source-at flows i) ∙ ap (source flows) (sym same) ∙ leaves))) (λ ne. old.told f low (omega arith) leaves) (cases_eq f (i + 1));
+      }
+
+  -- the next flow leaves the node and does not pass
+  pub tested-fails : Told (get_or flows i no_flow).guard false → Tested flows node Told (i + 1) s
+  tested-fails fails =
+      record {
+        leave = λ f h. let p = old.leave f h in (p.0, omega (arith, p.1), p.2);
+        told = λ f low high leaves.
+            ⊎_elim
+            (λ same.
+            let none : has s f ≡ false = ap (has s) same ∙ not-yet in
+            let guard : (flow_at flows f).guard ≡ (get_or flows i no_flow).guard = ap (λ (n : ℕ). (flow_at flows n).guard) same ∙ guard-at in
+            subst (λ (b : Bool). Told (flow_at flows f).guard b) (sym none) (subst (λ (g : Guard). Told g false) (sym guard) fails))
+            (λ ne. old.told f low (omega arith) leaves) (cases_eq f (i + 1));
+      }

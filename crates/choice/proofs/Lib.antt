@@ -1,4 +1,3 @@
-pub mod Figures
 pub mod Collected
 pub mod Choosing
 pub mod Counted

@@ -3,9 +3,12 @@ ghost use Rattle.std.specs.Prelude.{◌≡◌, Decides};
 ghost use Rattle.choice.specs.Conditions.{Compares, GuardHolds, figure};
 
 use process::flow::{Guard, Operator};
+use process::numbers::numbered;
 
 /// How many figures a count has.
 pub const MOST_FIGURES: usize = 16;
+
+// Here and below the definition goes by the same cases.
 
 /// Whether the left number compares with the right one as the operator says.
 pub fn compares(operator: Operator, left: i32, right: i32) -> bool
@@ -26,11 +29,7 @@ pub fn compares(operator: Operator, left: i32, right: i32) -> bool
 pub fn figure(figures: &[i32; MOST_FIGURES], number: u8) -> i32
     ensures { result ≡ figure figures.now number }
 {
-    let place = usize::from(number);
-    if place == 0 || place > MOST_FIGURES {
-        return 0;
-    }
-    figures[place - 1]
+    numbered(figures, u16::from(number)).unwrap_or(0)
 }
 
 /// Whether the flow has a condition, and it holds.

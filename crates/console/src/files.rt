@@ -17,6 +17,7 @@ pub fn read_text(rt: &HostRuntime, name: &str) -> io::Result<Vec<u8>> {
 // At most `ENOUGH` bytes from where the file stands.
 fn read_some(rt: &HostRuntime, file: &mut File) -> io::Result<Vec<u8>> {
     let mut text = Vec::new(rt.alloc());
+    // at most so many reads, and fewer where the file ends
     for _ in 0..ENOUGH {
         let mut buffer = [0; 4096];
         let count = file.read(&mut buffer)?;

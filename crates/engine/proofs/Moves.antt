@@ -1,6 +1,7 @@
 -- Flows that are to be put on and still carry a token after the taking, by sets.
-use Rattle.std.proofs.Common.{◌≡◌, ℕ, ◌<◌, ◌≤◌, Bool, true, false, not, ◌&&◌, List, length, ℤ, Some, None, Decides, Option, sym, ap, ◌∙◌, subst, inl, inr, ⊎_elim, arith, MatchOption}
+use Rattle.std.proofs.Common.{◌≡◌, ℕ, ◌<◌, ◌≤◌, Bool, true, false, not, ◌&&◌, List, length, ℤ, Some, None, Decides, Option, Err, sym, refl, ap, ◌∙◌, subst, inl, inr, ⊎_elim, arith, MatchOption}
 use Rattle.std.specs.List.{slice_get}
+use Rattle.std.specs.Option.{ok_or}
 use Rattle.std.proofs.lemmas.Bool.{cases_Bool, both_ways, and_parts, and_from, not-true, not_from_false}
 use Rattle.process.specs.declared.flow.Flow.{Flow}
 use Rattle.process.specs.declared.node.Kind.{Kind}
@@ -60,3 +61,8 @@ module _ (nodes : List Kind) (flows : List Flow) (few : length flows ≤ 64) (to
       by : (o : Option ℕ) → MatchOption o ((m : ℕ) → 0 < m → m ≤ 64 → has occupied m ≡ false) (Next occupied 0) → MatchOption o ((f : ℕ) → Occupied nodes flows tokens figures n f → ⊥) (λ f. Occupied nodes flows tokens figures n f × ((k : ℕ) → k < f → Occupied nodes flows tokens figures n k → ⊥))
       by None h = λ f o. let i = gets-flow nodes flows figures n f o.gets in both_ways _ (h f (omega (arith, i.0)) (omega (arith, i.1, few))) ((decides f).1 o)
       by (Some f) h = ((decides f).0 h.member, λ k below o. let i = gets-flow nodes flows figures n k o.gets in both_ways _ (h.first k (omega (arith, i.0)) below) ((decides k).1 o))
+
+-- a refusal that stands for `None`
+pub no_way-told : {A E : Type 0} (o : Option A) (e f : E) → Err f ≡ ok_or o e → (o ≡ None) × (f ≡ e)
+no_way-told None e f h = (refl, cc)
+no_way-told (Some a) e f h = absurd cc

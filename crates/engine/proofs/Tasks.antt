@@ -1,14 +1,12 @@
 -- Tasks of a model, and the answers that wait for them.
-use Rattle.std.proofs.Common.{◌≡◌, ℕ, zero, suc, ◌≤◌, true, eqb, leb, List, [], ◌∷◌, length, get_or, Decides, sym, refl, ap, ◌∙◌, subst, arith}
-use Rattle.std.proofs.lemmas.Bool.{and_parts, leb-true, eqb-true, eq-eqb}
+use Rattle.std.proofs.Common.{◌≡◌, ℕ, zero, suc, ◌≤◌, true, leb, List, [], ◌∷◌, get_or, refl, subst}
+use Rattle.std.proofs.lemmas.Bool.{and_parts, leb-true}
 use Rattle.process.specs.declared.draft.Draft.{Draft}
 use Rattle.process.specs.declared.node.Kind.{Kind}
 use Rattle.process.specs.declared.node.Kind.TheVariants as kinds
 use Rattle.process.specs.Drafts.{nodes_of, flows_of, number_of}
 use Rattle.process.specs.Processes.{is_number, kind_in_range, kinds_in_range, flows_formed}
 use Rattle.model.specs.Rules.{kind_at}
-use Rattle.service.specs.declared.answer.Answer.{Answer}
-use Rattle.engine.specs.Steps.{UnansweredAs}
 
 kind_fits : (nodes : List Kind) (k : ℕ) → kinds_in_range nodes ≡ true → kind_in_range (get_or nodes k kinds.Start) ≡ true
 kind_fits [] zero h = refl
@@ -28,15 +26,3 @@ task-figure d n x e =
     let fits : kind_in_range (kinds.Task x) ≡ true = subst (λ (k : Kind). kind_in_range k ≡ true) e (kind-fits-at (nodes_of d) n ranged.0) in
     let p = and_parts (leb 1 x) (leb x 16) fits in
     (leb-true 1 x p.0, leb-true x 16 p.1)
-
-none-waits : (answers : List Answer) → length answers ≡ 0 → answers ≡ []
-none-waits [] e = refl
-none-waits (a ∷ as') e = absurd (omega (arith, e))
-
--- whether an answer waits for a task is told by how many wait
-pub unanswered-decides : (kind : Kind) (x : ℕ) (answers : List Answer) (k : ℕ) → kind ≡ kinds.Task x → k ≡ length answers → Decides (eqb k 0) (UnansweredAs kind answers)
-unanswered-decides kind x answers k e long =
-    subst (λ (K : Kind). Decides (eqb k 0) (UnansweredAs K answers)) (sym e) (
-      λ h. none-waits answers (sym long ∙ eqb-true k 0 h),
-      λ h. eq-eqb k 0 (long ∙ ap length h),
-    )

@@ -17,6 +17,7 @@ pub struct Begun<'a> {
     pub(crate) marking: Marking<'a>,
     pub(crate) instance: u16,
     pub(crate) figures: [i32; MOST_FIGURES],
-    // How many lines were written: the journal's next place.
+    // How many lines were written: the journal's next place. The journal is lent with each call, and so is the
+    // service: so a list of calls in both states can say what they hold at its end.
     pub(crate) written: u16,
 }

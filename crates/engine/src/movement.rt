@@ -22,10 +22,8 @@ impl<'a> Begun<'a> {
     fn lacks_answer<S: Service>(&self, node: u8, service: &S) -> bool
         ensures { Decides result (Unanswered self.now (S.waits service.now) node) }
     {
-        match self.marking.routing().model().kind(node) {
-            Kind::Task { .. } => service.waiting(u16::from(node)) == 0,
-            Kind::Start | Kind::End | Kind::Exclusive | Kind::Parallel | Kind::Inclusive => false,
-        }
+        matches!(self.marking.kind(node), Kind::Task { .. })
+            && service.waiting(u16::from(node)) == 0
     }
 
     /// Whether the journal has a next place for a line of this count.
@@ -48,12 +46,10 @@ impl<'a> Begun<'a> {
             let fault = ServiceFault::NoAnswer { node: number };
             return Err(CountFault::Service { fault, instance });
         }
-        let Some(put) = puts(self.marking.routing(), &self.figures, node) else {
-            return Err(CountFault::NoWay {
-                node: number,
-                instance,
-            });
-        };
+        let put = puts(self.marking.routing(), &self.figures, node).ok_or(CountFault::NoWay {
+            node: number,
+            instance,
+        })?;
         let taken = self.marking.takes(node);
         let occupied = self.marking.tokens().difference(taken).intersection(put);
         match occupied.lowest() {

@@ -22,9 +22,8 @@ impl<'a> Begun<'a> {
             (Idle self.now (S.waits service.now)) }
     {
         let mut stop = Stop::Resting;
-        let count = self.marking.routing().model().nodes().len();
-        for place in 0..count {
-            let node = place as u8 + 1;
+        let last = self.last_node();
+        for node in 1..last + 1 {
             if self.marking.is_ready(node) {
                 stop = Stop::Held;
                 if let Ok(movement) = self.movement(node, service) {

@@ -9,6 +9,7 @@ use fault::count::CountFault;
 use paths::reason::{Reason, why};
 use process::draft::MOST_FLOWS;
 use process::node::Kind;
+use process::numbers::numbered;
 
 impl<'a> Begun<'a> {
     /// The value of the figure now. Refused if no figure has the number.
@@ -16,10 +17,7 @@ impl<'a> Begun<'a> {
         ensures { result ≡ figure_told self.now figure }
     {
         let instance = self.instance;
-        if figure < 1 || figure > 16 {
-            return Err(CountFault::FigureNumber { figure, instance });
-        }
-        Ok(self.figures[usize::from(figure) - 1])
+        numbered(&self.figures, figure).ok_or(CountFault::FigureNumber { figure, instance })
     }
 
     /// Whether the node is ready. Refused if the model has no such node.
@@ -38,12 +36,10 @@ impl<'a> Begun<'a> {
     {
         let instance = self.instance;
         let number = self.number_of(node)?;
-        match self.marking.routing().model().kind(number) {
-            Kind::Inclusive => Ok(number),
-            Kind::Start | Kind::End | Kind::Task { .. } | Kind::Exclusive | Kind::Parallel => {
-                Err(CountFault::NotInclusive { node, instance })
-            }
+        if self.marking.kind(number) != Kind::Inclusive {
+            return Err(CountFault::NotInclusive { node, instance });
         }
+        Ok(number)
     }
 
     /// How many flows hold the inclusive gateway back. Refused if the model has no such node, else if it is none.

@@ -35,11 +35,12 @@ impl<'a> Begun<'a> {
         ensures { Ran self.old journal.old (S.waits service.old) budget result.steps result.stop self.new journal.new (S.waits service.new) }
     {
         let mut steps = 0;
+        // Ends by `next`, which counts the steps against the budget: a `for` over the budget would not say why it ends.
         loop {
             match self.next(steps, budget, journal.len(), service) {
                 Err(stop) => return Outcome { steps, stop },
                 Ok(turn) => {
-                    self.carry_out(turn.node, turn.movement, journal, service);
+                    self.carry_out(turn, journal, service);
                     steps += 1;
                 }
             }

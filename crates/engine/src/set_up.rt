@@ -2,7 +2,6 @@
 ghost use Rattle.std.specs.Prelude.{◌≡◌, ℕ, Decides};
 ghost use Rattle.process.specs.Sets.{has};
 ghost use Rattle.model.specs.Models.{nodes_of, flows_of};
-ghost use Rattle.model.specs.Rules.{is_start};
 ghost use Rattle.engine.specs.SetUps.{new_figures, SetTo, LeavesStart, Begins};
 
 use crate::counts::{Begun, SetUp};
@@ -15,23 +14,15 @@ use process::node::Kind;
 use process::ranges::is_value;
 use process::sets::FlowSet;
 
-fn is_start(kind: Kind) -> bool
-    ensures { result ≡ is_start kind }
-{
-    match kind {
-        Kind::Start => true,
-        Kind::End | Kind::Task { .. } | Kind::Exclusive | Kind::Parallel | Kind::Inclusive => false,
-    }
-}
-
-// The flow that leaves the start, as a set.
+// The flow that leaves the start, as a set. Collected here, since a public call that takes a test may not ask that it can
+// be called.
 fn start_flows(model: &Model) -> FlowSet
     ensures { (f : ℕ) → Decides (has result f) (LeavesStart (nodes_of model.now) (flows_of model.now) f) }
 {
-    let flows = model.flows();
     let mut found = FlowSet::empty();
-    for place in 0..flows.len() {
-        if is_start(model.kind(flows[place].from)) {
+    for (place, flow) in model.flows().iter().enumerate() {
+        if model.kind(flow.from) == Kind::Start {
+            // a place of at most 64: the cast is proved to lose nothing
             found = found.insert(place as u8 + 1);
         }
     }
@@ -64,6 +55,7 @@ impl<'a> SetUp<'a> {
         if !is_value(value) {
             return Err(CountFault::Value { instance });
         }
+        // by its place: of an array that `get_mut` lends out, a proof knows only the length afterwards
         self.figures[usize::from(figure) - 1] = value;
         Ok(())
     }

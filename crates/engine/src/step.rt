@@ -1,19 +1,27 @@
 //! A step of a count.
 ghost use Rattle.std.specs.Prelude.{◌≡◌, true, false, length, MatchResult};
 ghost use Rattle.fault.specs.declared.count.CountFault.TheVariants.{NodeNumber};
-ghost use Rattle.engine.specs.Counts.{has_node, kind_of, IsReady};
+ghost use Rattle.engine.specs.Counts.{nodes_of, has_node, kind_of, IsReady};
 ghost use Rattle.engine.specs.Lines.{figures_after};
 ghost use Rattle.engine.specs.Steps.{Room, Unanswered, Answered, Clear, Went, Stepped, TakesAnswer};
 
 use crate::counts::Begun;
 use crate::line::Line;
-use crate::movement::Movement;
+use crate::next::Turn;
 use fault::count::CountFault;
 use process::node::Kind;
 use service::answer::Answer;
 use service::service::Service;
 
 impl<'a> Begun<'a> {
+    /// How many nodes the model has, which is the highest number of a node.
+    pub(crate) fn last_node(&self) -> u8
+        ensures { result ≡ length (nodes_of self.now) }
+    {
+        // at most 40: the cast is proved to lose nothing
+        self.marking.routing().model().nodes().len() as u8
+    }
+
     // The number of a node of the model.
     pub(crate) fn number_of(&self, node: u16) -> Result<u8, CountFault>
         ensures { MatchResult result
@@ -21,10 +29,10 @@ impl<'a> Begun<'a> {
             (λ fault. (has_node self.now node ≡ false) × (fault ≡ NodeNumber node self.now.instance)) }
     {
         let instance = self.instance;
-        let nodes = self.marking.routing().model().nodes();
-        if node < 1 || usize::from(node) > nodes.len() {
+        if node < 1 || node > u16::from(self.last_node()) {
             return Err(CountFault::NodeNumber { node, instance });
         }
+        // at most 40: the cast is proved to lose nothing
         Ok(node as u8)
     }
 
@@ -33,7 +41,7 @@ impl<'a> Begun<'a> {
         requires { Unanswered self.old (S.waits service.old) node → ⊥ }
         ensures { TakesAnswer self.old (S.waits service.old) node result self.new (S.waits service.new) }
     {
-        match self.marking.routing().model().kind(node) {
+        match self.marking.kind(node) {
             Kind::Task { figure } => {
                 let Ok(answer) = service.take(u16::from(node)) else {
                     unreachable()
@@ -41,6 +49,7 @@ impl<'a> Begun<'a> {
                 self.figures[usize::from(figure) - 1] = answer.value;
                 answer
             }
+            // no Option: the journal's line has 0 where the node is no task
             Kind::Start | Kind::End | Kind::Exclusive | Kind::Parallel | Kind::Inclusive => {
                 Answer { value: 0 }
             }
@@ -50,17 +59,17 @@ impl<'a> Begun<'a> {
     // Makes a step that nothing hinders: takes the answer, writes the line at the journal's next place and moves the tokens.
     pub(crate) fn carry_out<S: Service>(
         &mut self,
-        node: u8,
-        movement: Movement,
+        turn: Turn,
         journal: &mut [Line],
         service: &mut S,
     ) -> Line
-        requires node { has_node self.old node ≡ true }
-        requires ready { IsReady self.old node }
+        requires node { has_node self.old turn.node ≡ true }
+        requires ready { IsReady self.old turn.node }
         requires room { Room self.old (length journal.old) }
-        requires clear { Clear self.old (S.waits service.old) node movement }
-        ensures { Went self.old journal.old (S.waits service.old) node result self.new journal.new (S.waits service.new) }
+        requires clear { Clear self.old (S.waits service.old) turn.node turn.movement }
+        ensures { Went self.old journal.old (S.waits service.old) turn.node result self.new journal.new (S.waits service.new) }
     {
+        let Turn { node, movement } = turn;
         let answer = self.take_answer(node, service);
         let line = Line {
             node,
@@ -94,6 +103,10 @@ impl<'a> Begun<'a> {
             return Err(CountFault::JournalFull { node, instance });
         }
         let movement = self.movement(number, service)?;
-        Ok(self.carry_out(number, movement, journal, service))
+        let turn = Turn {
+            node: number,
+            movement,
+        };
+        Ok(self.carry_out(turn, journal, service))
     }
 }

@@ -18,7 +18,7 @@ use Rattle.fault.specs.declared.count.CountFault.{CountFault}
 use Rattle.fault.specs.declared.count.CountFault.TheVariants as count
 
 -- a fault outside a count
-abbrev told : ℕ → ℕ → ℕ → FaultRecord
+abbrev pub told : ℕ → ℕ → ℕ → FaultRecord
 told n l p = record { number = n; layer = l; place = p; instance = 0 }
 
 abbrev pub text_record : TextFault → FaultRecord

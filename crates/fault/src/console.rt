@@ -7,6 +7,8 @@ use crate::line::LineFault;
 use crate::model::ModelFault;
 use crate::record::FaultRecord;
 
+const LAYER: u8 = 6;
+
 /// Why the console refuses its input.
 #[derive(Clone, Copy, PartialEq, Eq, Debug)]
 pub enum ConsoleFault {
@@ -18,6 +20,7 @@ pub enum ConsoleFault {
     NoRoom { place: usize },
 }
 
+// Both by hand: a derived `From` does not say what it gives.
 impl From<ModelFault> for ConsoleFault {
     ghost from_gives = { λ fault r. r ≡ Model fault };
 
@@ -42,12 +45,7 @@ impl ConsoleFault {
         match self {
             ConsoleFault::Model(fault) => fault.record(),
             ConsoleFault::Order(fault) => fault.record(),
-            ConsoleFault::NoRoom { place } => FaultRecord {
-                number: 46,
-                layer: 6,
-                place,
-                instance: 0,
-            },
+            ConsoleFault::NoRoom { place } => FaultRecord::told(46, LAYER, place),
         }
     }
 }

@@ -5,6 +5,8 @@ ghost use Rattle.fault.specs.Records.{count_record, of_count};
 use crate::record::FaultRecord;
 use crate::service::ServiceFault;
 
+const LAYER: u8 = 4;
+
 /// Why a count refuses a call. Each fault names the instance, and a node or figure by the number that was given.
 #[derive(Clone, Copy, PartialEq, Eq, Debug)]
 pub enum CountFault {
@@ -37,10 +39,8 @@ fn of_count(number: u8, place: u16, instance: u16) -> FaultRecord
     ensures { result ≡ of_count number place instance }
 {
     FaultRecord {
-        number,
-        layer: 4,
-        place: usize::from(place),
         instance,
+        ..FaultRecord::told(number, LAYER, usize::from(place))
     }
 }
 

@@ -4,6 +4,8 @@ ghost use Rattle.fault.specs.Records.{graph_record};
 
 use crate::record::FaultRecord;
 
+const LAYER: u8 = 4;
+
 /// Why the work list or the search refuses.
 #[derive(Clone, Copy, PartialEq, Eq, Debug)]
 pub enum GraphFault {
@@ -20,16 +22,10 @@ impl GraphFault {
     pub fn record(self) -> FaultRecord
         ensures { result ≡ graph_record self }
     {
-        let number = match self {
-            GraphFault::Full => 68,
-            GraphFault::Empty => 69,
-            GraphFault::TooMany => 70,
-        };
-        FaultRecord {
-            number,
-            layer: 4,
-            place: 0,
-            instance: 0,
+        match self {
+            GraphFault::Full => FaultRecord::told(68, LAYER, 0),
+            GraphFault::Empty => FaultRecord::told(69, LAYER, 0),
+            GraphFault::TooMany => FaultRecord::told(70, LAYER, 0),
         }
     }
 }

@@ -6,6 +6,8 @@ ghost use Rattle.fault.specs.declared.line.LineFault.TheVariants.{Text};
 use crate::record::FaultRecord;
 use crate::text::TextFault;
 
+const LAYER: u8 = 2;
+
 /// Why a text is refused when its lines are read.
 #[derive(Clone, Copy, PartialEq, Eq, Debug)]
 pub enum LineFault {
@@ -23,6 +25,7 @@ pub enum LineFault {
     MissingNode { line: usize },
 }
 
+// By hand: a derived `From` does not say what it gives.
 impl From<TextFault> for LineFault {
     ghost from_gives = { λ fault r. r ≡ Text fault };
 
@@ -36,19 +39,13 @@ impl LineFault {
     pub fn record(self) -> FaultRecord
         ensures { result ≡ line_record self }
     {
-        let (number, place) = match self {
-            LineFault::Text(fault) => return fault.record(),
-            LineFault::Form { line } => (21, line),
-            LineFault::Number { line } => (22, line),
-            LineFault::Sequence { line } => (23, line),
-            LineFault::TooMany { line } => (24, line),
-            LineFault::MissingNode { line } => (25, line),
-        };
-        FaultRecord {
-            number,
-            layer: 2,
-            place,
-            instance: 0,
+        match self {
+            LineFault::Text(fault) => fault.record(),
+            LineFault::Form { line } => FaultRecord::told(21, LAYER, line),
+            LineFault::Number { line } => FaultRecord::told(22, LAYER, line),
+            LineFault::Sequence { line } => FaultRecord::told(23, LAYER, line),
+            LineFault::TooMany { line } => FaultRecord::told(24, LAYER, line),
+            LineFault::MissingNode { line } => FaultRecord::told(25, LAYER, line),
         }
     }
 }

@@ -6,6 +6,8 @@ ghost use Rattle.fault.specs.declared.model.ModelFault.TheVariants.{Line};
 use crate::line::LineFault;
 use crate::record::FaultRecord;
 
+const LAYER: u8 = 3;
+
 /// Why a text is refused when it is read as a model. A node or flow that is named is the lowest that breaks the rule.
 #[derive(Clone, Copy, PartialEq, Eq, Debug)]
 pub enum ModelFault {
@@ -25,6 +27,7 @@ pub enum ModelFault {
     NotReached { node: u8 },
 }
 
+// By hand: a derived `From` does not say what it gives.
 impl From<LineFault> for ModelFault {
     ghost from_gives = { λ fault r. r ≡ Line fault };
 
@@ -38,20 +41,14 @@ impl ModelFault {
     pub fn record(self) -> FaultRecord
         ensures { result ≡ model_record self }
     {
-        let (number, place) = match self {
-            ModelFault::Line(fault) => return fault.record(),
-            ModelFault::StartsAndEnds => (31, 0),
-            ModelFault::FlowCount { node } => (32, node),
-            ModelFault::SelfLoop { flow } => (33, flow),
-            ModelFault::Guard { flow } => (34, flow),
-            ModelFault::SecondDefault { flow } => (35, flow),
-            ModelFault::NotReached { node } => (36, node),
-        };
-        FaultRecord {
-            number,
-            layer: 3,
-            place: usize::from(place),
-            instance: 0,
+        match self {
+            ModelFault::Line(fault) => fault.record(),
+            ModelFault::StartsAndEnds => FaultRecord::told(31, LAYER, 0),
+            ModelFault::FlowCount { node } => FaultRecord::told(32, LAYER, usize::from(node)),
+            ModelFault::SelfLoop { flow } => FaultRecord::told(33, LAYER, usize::from(flow)),
+            ModelFault::Guard { flow } => FaultRecord::told(34, LAYER, usize::from(flow)),
+            ModelFault::SecondDefault { flow } => FaultRecord::told(35, LAYER, usize::from(flow)),
+            ModelFault::NotReached { node } => FaultRecord::told(36, LAYER, usize::from(node)),
         }
     }
 }

@@ -4,6 +4,8 @@ ghost use Rattle.fault.specs.Records.{service_record};
 
 use crate::record::FaultRecord;
 
+const LAYER: u8 = 5;
+
 /// Why a service refuses. A node is the number that was given.
 #[derive(Clone, Copy, PartialEq, Eq, Debug)]
 pub enum ServiceFault {
@@ -22,17 +24,11 @@ impl ServiceFault {
     pub fn record(self) -> FaultRecord
         ensures { result ≡ service_record self }
     {
-        let (number, node) = match self {
-            ServiceFault::NodeNumber { node } => (43, node),
-            ServiceFault::Value => (42, 0),
-            ServiceFault::Full { node } => (66, node),
-            ServiceFault::NoAnswer { node } => (63, node),
-        };
-        FaultRecord {
-            number,
-            layer: 5,
-            place: usize::from(node),
-            instance: 0,
+        match self {
+            ServiceFault::NodeNumber { node } => FaultRecord::told(43, LAYER, usize::from(node)),
+            ServiceFault::Value => FaultRecord::told(42, LAYER, 0),
+            ServiceFault::Full { node } => FaultRecord::told(66, LAYER, usize::from(node)),
+            ServiceFault::NoAnswer { node } => FaultRecord::told(63, LAYER, usize::from(node)),
         }
     }
 }

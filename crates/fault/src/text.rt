@@ -4,6 +4,8 @@ ghost use Rattle.fault.specs.Records.{text_record};
 
 use crate::record::FaultRecord;
 
+const LAYER: u8 = 1;
+
 /// Why the bytes are no text.
 #[derive(Clone, Copy, PartialEq, Eq, Debug)]
 pub enum TextFault {
@@ -20,16 +22,10 @@ impl TextFault {
     pub fn record(self) -> FaultRecord
         ensures { result ≡ text_record self }
     {
-        let (number, place) = match self {
-            TextFault::Size => (11, 0),
-            TextFault::Byte { offset } => (12, offset),
-            TextFault::Ending { length } => (13, length),
-        };
-        FaultRecord {
-            number,
-            layer: 1,
-            place,
-            instance: 0,
+        match self {
+            TextFault::Size => FaultRecord::told(11, LAYER, 0),
+            TextFault::Byte { offset } => FaultRecord::told(12, LAYER, offset),
+            TextFault::Ending { length } => FaultRecord::told(13, LAYER, length),
         }
     }
 }

@@ -131,9 +131,12 @@ module _ {P : Type 0} {next : P → List P} {from : List P} {limit : ℕ} {befor
         rest = λ k d h. refl;
       }
 
-  -- the queue by another name
-  pub search-at : {found : List P} {count : ℕ} {queue queue' : List P} → queue ≡ queue' → Searching next from limit before found count queue → Searching next from limit before found count queue'
-  search-at {found} {count} e s = subst (λ (xs : List P). Searching next from limit before found count xs) e s
+  -- a place was taken from the queue, or none waited, and what was found stays as it was
+  pub search-taken : {found found' : List P} {count count' : ℕ} {queue queue' : List P} → found' ≡ found → count' ≡ count → queue ≡ queue' → Searching next from limit before found count queue → Searching next from limit before found' count' queue'
+  search-taken {found} {found'} {count} {count'} {queue} {queue'} f c q s =
+      let one = subst (λ (xs : List P). Searching next from limit before found count xs) q s in
+      let two = subst (λ (n : ℕ). Searching next from limit before found n queue') (sym c) one in
+      subst (λ (xs : List P). Searching next from limit before xs count' queue') (sym f) two
 
   -- a place was taken from the queue, and those next to it were added
   pub search-step : {found : List P} {count : ℕ} {x : P} {queue found' : List P} {count' : ℕ} {queue' : List P} → Searching next from limit before found count (x ∷ queue) → Added limit (next x) found count queue found' count' queue' → Searching next from limit before found' count' queue'

@@ -1,6 +1,6 @@
 -- What stands in a list, and lists in which no place stands twice. Crates that use the search build on these lemmas.
-use Rattle.std.proofs.Common.{◌≡◌, ℕ, zero, suc, ◌-◌, ◌<◌, ◌≤◌, Bool, false, ◌⊎◌, List, [], ◌∷◌, ◌++◌, length, get_or, take, Decides, sym, refl, ◌∙◌, ap, subst, inl, inr, ⊎_elim, suc-le-suc, zero-le, le_of_suc-le-suc, not-suc-le-zero, arith, length-append}
-use Rattle.std.specs.List.{list_any, ContainsAt as Has}
+use Rattle.std.proofs.Common.{◌≡◌, ℕ, ◌≤◌, Bool, false, ◌⊎◌, List, [], ◌∷◌, ◌++◌, length, Decides, sym, refl, ap, subst, inl, inr, ⊎_elim, zero-le, arith, length-append}
+use Rattle.std.specs.List.{list_any}
 use Rattle.std.proofs.lemmas.Bool.{or_cases, or_left, or_right, false≢true}
 use Rattle.graph.specs.Reach.{Holds, Distinct, Reached, MoreThan}
 
@@ -26,23 +26,7 @@ module _ {P : Type 0} where
   holds-split (x ∷ xs) p (inl e) = ([], (xs, ap (λ q. q ∷ xs) e))
   holds-split (x ∷ xs) p (inr h) = let s = holds-split xs p h in (x ∷ s.0, (s.1.0, ap (λ r. x ∷ r) s.1.1))
 
-  -- to stand in a list is to stand at one of its indices
-  pub holds-from-has : (xs : List P) (p : P) → Has xs p → Holds xs p
-  holds-from-has [] p (k, l, at) = absurd (not-suc-le-zero l)
-  holds-from-has (x ∷ xs) p (zero, l, at) = inl (at p)
-  holds-from-has (x ∷ xs) p (suc k, l, at) = inr (holds-from-has xs p (k, le_of_suc-le-suc l, at))
-
-  pub has-from-holds : (xs : List P) (p : P) → Holds xs p → Has xs p
-  has-from-holds [] p h = absurd h
-  has-from-holds (x ∷ xs) p (inl e) = (0, omega arith, λ d. e)
-  has-from-holds (x ∷ xs) p (inr h) = let s = has-from-holds xs p h in (suc s.0, suc-le-suc s.1, s.2)
-
-  pub holds-getD : (xs : List P) (k : ℕ) (d : P) → k < length xs → Holds xs (get_or xs k d)
-  holds-getD [] k d l = absurd (not-suc-le-zero l)
-  holds-getD (x ∷ xs) zero d l = inl refl
-  holds-getD (x ∷ xs) (suc k) d l = inr (holds-getD xs k d (le_of_suc-le-suc l))
-
-  -- where `==` is sameness, `contains` on the first n of a list answers whether the place stands there
+  -- where `==` is sameness, `contains` answers whether the place stands in the list
   holds-decides : (eq : P → Bool) (p : P) → ((q : P) → Decides (eq q) (q ≡ p)) → (xs : List P) → Decides (list_any eq xs) (Holds xs p)
   holds-decides eq p law [] = (λ e. absurd (false≢true e), λ h. absurd h)
   holds-decides eq p law (x ∷ xs) =
@@ -51,11 +35,8 @@ module _ {P : Type 0} where
         ⊎_elim (λ e. or_left (eq x) (list_any eq xs) ((law x).1 e)) (λ h. or_right (eq x) (list_any eq xs) (rest.1 h)),
       )
 
-  pub holds-from-contains : (eq : P → Bool) (xs : List P) (n : ℕ) (p : P) (r : Bool) → ((q : P) → Decides (eq q) (q ≡ p)) → r ≡ list_any eq (take (n - 0) xs) → Decides r (Holds (take n xs) p)
-  holds-from-contains eq xs n p r law is =
-      let e : n - 0 ≡ n = omega arith in
-      let same = is ∙ ap (λ k. list_any eq (take k xs)) e in
-      subst (λ b. Decides b (Holds (take n xs) p)) (sym same) (holds-decides eq p law (take n xs))
+  pub holds-from-contains : (eq : P → Bool) (xs : List P) (p : P) (r : Bool) → ((q : P) → Decides (eq q) (q ≡ p)) → r ≡ list_any eq xs → Decides r (Holds xs p)
+  holds-from-contains eq xs p r law is = subst (λ b. Decides b (Holds xs p)) (sym is) (holds-decides eq p law xs)
 
   -- a place that does not stand in the list can be put at its end
   pub distinct_push : (xs : List P) (p : P) → Distinct xs → (Holds xs p → ⊥) → Distinct (xs ++ p ∷ [])

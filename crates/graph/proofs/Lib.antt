@@ -1,3 +1,4 @@
 pub mod Holding
 mod Adding
+mod Growing
 mod Rings

@@ -1,3 +1,4 @@
 pub mod Reach
+pub mod ReachLemmas
 pub mod Ring
 pub mod Searches

@@ -2,6 +2,8 @@
 -- Throughout, the first `count` of `found` are the places found so far, and `queue` those of them whose neighbours were not looked at yet.
 use Rattle.std.specs.Prelude.{◌≡◌, ℕ, ◌+◌, ◌≤◌, ◌⊎◌, List, ◌++◌, length, take, slice_index_or}
 use Rattle.graph.specs.Reach.{Holds, Distinct, Reached}
+use Rattle.graph.specs.Ring.{entries}
+use Rattle.graph.specs.declared.search.Search.{Search}
 
 -- A place can be added: what was found fits, no place was found twice, and no more places wait than were found.
 pub record Ready {P : Type 0} (limit : ℕ) (found : List P) (count : ℕ) (queue : List P) : Type 0 where
@@ -40,3 +42,11 @@ pub record Searching {P : Type 0} (next : P → List P) (from : List P) (limit :
   pub closed : (p : P) → Holds (take count found) p → Holds queue p ⊎ ((q : P) → Holds (next p) q → Holds (take count found) q)
   pub long : length found ≡ length before
   pub rest : (k : ℕ) (d : P) → count ≤ k → slice_index_or found k d ≡ slice_index_or before k d
+
+-- the asked places were added: the search `t` is what `s` became, over the same memory
+abbrev pub Grown : {P : Type 0} → List P → Search P → Search P → Type 0
+Grown asked s t = Added s.limit asked s.found.now s.count (entries s.waiting.now) t.found.now t.count (entries t.waiting.now) × (t.limit ≡ s.limit)
+
+-- they cannot all be added
+abbrev pub Overfull : {P : Type 0} → List P → Search P → Type 0
+Overfull asked s = Overflows s.limit asked s.found.now s.count

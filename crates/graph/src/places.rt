@@ -3,11 +3,14 @@ ghost use Rattle.std.specs.Prelude.{◌≡◌, Bool, List, length, Decides};
 ghost use Rattle.std.specs.List.{slice_get};
 ghost use Rattle.std.proofs.Common.{rules};
 
+// Both are traits and no closures: a public call may not require that a closure can be called.
+
 /// Values on which `==` is sameness.
 pub trait Same: PartialEq + Sized {
     ghost lawful: { (x y : Self) (r : Bool) → (r ≡ Self.PartialEq.eq x y) → Decides r (x ≡ y) };
 }
 
+// One impl for each type of numbers: no bound of std says that `==` is sameness, and a trait that did would need the same five.
 impl Same for u8 {
     ghost lawful = { Prim.search rules };
 }

@@ -5,6 +5,8 @@ ghost use Rattle.std.specs.Prelude.{◌≤◌, length};
 
 mod methods;
 
+// No impl Model: contracts would still name both the entries and the capacity, and a refused call would promise less
+// than that nothing at all is changed.
 /// Entries that wait in a ring: the first free place after the memory's end is its start.
 #[derive(Drop)]
 pub struct WorkList<'a, T> {

@@ -15,26 +15,15 @@ impl<'a> Graph for Edges<'a> {
     ghost next = { λ g p. targets g.edges.now p };
 
     fn degree(&self, place: u8) -> usize {
-        let mut number = 0;
-        for edge in self.edges {
-            if edge.0 == place {
-                number += 1;
-            }
-        }
-        number
+        self.edges.iter().filter(|edge| edge.0 == place).count()
     }
 
     fn neighbour(&self, place: u8, index: usize) -> Option<u8> {
-        let mut before = index;
-        for edge in self.edges {
-            if edge.0 == place {
-                if before == 0 {
-                    return Some(edge.1);
-                }
-                before -= 1;
-            }
-        }
-        None
+        self.edges
+            .iter()
+            .filter(|edge| edge.0 == place)
+            .nth(index)
+            .map(|edge| edge.1)
     }
 }
 

@@ -15,6 +15,7 @@ pub struct Rung {
     pub height: u16,
 }
 
+// No derive gives the law.
 impl Same for Rung {
     ghost lawful = { Prim.search rules };
 }
@@ -25,16 +26,13 @@ impl Graph for Ladder {
     ghost next = { λ l r. (if ltb r.height l.top then (record { height = r.height + 1 } ∷ []) else []) };
 
     fn degree(&self, place: Rung) -> usize {
-        if place.height < self.top { 1 } else { 0 }
+        usize::from(place.height < self.top)
     }
 
     fn neighbour(&self, place: Rung, index: usize) -> Option<Rung> {
-        if place.height < self.top && index == 0 {
-            let height = place.height + 1;
-            Some(Rung { height })
-        } else {
-            None
-        }
+        (place.height < self.top && index == 0).then(|| Rung {
+            height: place.height + 1,
+        })
     }
 }
 

@@ -51,7 +51,7 @@ fn perform_begun<S: Service>(
     }
 }
 
-// Makes a call of a count.
+// Makes a call of a count. Calls are data and no closures: the law speaks of lists of them.
 fn perform<'a, S: Service>(
     count: Count<'a>,
     call: Call,
@@ -87,8 +87,9 @@ pub fn attend<'a, S: Service>(
 {
     let mut count = Count::Setting(SetUp::new(routing, instance));
     let number = calls.len().min(replies.len());
-    for place in 0..number {
-        let (next, reply) = perform(count, calls[place], journal, service);
+    // `replies` is written by place: of a slice that `iter_mut` lends to a zip, a proof knows only the length afterwards.
+    for (place, call) in calls[..number].iter().enumerate() {
+        let (next, reply) = perform(count, *call, journal, service);
         count = next;
         replies[place] = reply;
     }

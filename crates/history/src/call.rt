@@ -44,6 +44,7 @@ pub enum Reply {
     /// How many flows hold a gateway back.
     Holding(Result<u8, CountFault>),
     /// Why a gateway waits, and a list that begins with the path.
+    // The list stands beside the result: a refusal leaves the list that was lent as it was, and the reply shows it.
     Why(Result<Reason, CountFault>, [u8; MOST_FLOWS]),
     /// The state of the count does not take the call, so nothing was done.
     Untaken,

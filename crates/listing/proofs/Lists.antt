@@ -1,12 +1,10 @@
 -- Flows with commas between them.
-use Rattle.std.proofs.Common.{◌≡◌, ℕ, zero, suc, ◌+◌, ◌-◌, ◌<◌, ◌≤◌, min, List, [], ◌∷◌, ◌++◌, length, get_or, take, drop, Some, None, codes, decimal, sym, refl, ap, ◌∙◌, subst, ⊎_elim, append_assoc, append-nil, arith}
-use Rattle.std.specs.List.{slice_get}
-use Rattle.std.proofs.lemmas.List.{take_more, take_all}
-use Rattle.std.proofs.lemmas.Bool.{cases_lt}
+use Rattle.std.proofs.Common.{◌≡◌, ℕ, zero, suc, ◌+◌, ◌*◌, ◌<◌, ◌≤◌, Bool, true, false, cond, List, [], ◌∷◌, ◌++◌, length, get_or, take, drop, codes, decimal, sym, refl, ap, ◌∙◌, subst, append_assoc, append-nil, arith, length-append, take-append-drop}
+use Rattle.std.proofs.lemmas.List.{take_more}
 use Rattle.process.specs.declared.sets.FlowSet.{FlowSet}
-use Rattle.process.specs.Sets.{has, above, Next}
-use Rattle.process.proofs.Ordered.{above-here, above-not, next-some}
+use Rattle.process.specs.Sets.{has, among, above}
 use Rattle.listing.specs.Lines.{after_commas, listed}
+use Rattle.listing.proofs.Numbers.{two_digits, three-digits}
 
 -- one number more at the end
 after_push : (ns : List ℕ) (n : ℕ) → after_commas (ns ++ n ∷ []) ≡ after_commas ns ++ (codes "," ++ decimal n)
@@ -22,44 +20,49 @@ pub listed-some : (ns : List ℕ) → 0 < length ns → listed ns ≡ decimal (g
 listed-some [] h = absurd (omega arith)
 listed-some (n ∷ ns) h = refl
 
--- no more are taken than there are
-pub take-shown : (ns : List ℕ) (n shown : ℕ) → shown ≡ min n (length ns) → take shown ns ≡ take n ns
-take-shown ns n shown e = ⊎_elim few many (cases_lt n (length ns))
+-- ---- how long they are
+
+-- numbers of 8 bits take at most four bytes each, with their commas
+after-most : (ns : List ℕ) → ((k : ℕ) → get_or ns k 0 < 256) → length (after_commas ns) ≤ 4 * length ns
+after-most [] small = omega arith
+after-most (n ∷ ns) small =
+    let digits = three-digits n (small 0) in
+    let rest = after-most ns (λ k. small (suc k)) in
+    omega (arith, length-append (decimal n) (after_commas ns))
+
+-- the flows of a set take at most three
+after-among : (s : FlowSet) (k n : ℕ) → n + k ≤ 65 → length (after_commas (among s n k)) ≤ 3 * k
+unfolding among
+after-among s zero n few = omega arith
+after-among s (suc k) n few = by (has s n) (after-among s k (suc n) (omega arith))
   where
-    few : n < length ns → take shown ns ≡ take n ns
-    few h = let same : shown ≡ n = omega arith in ap (λ k. take k ns) same
+    digits : length (decimal n) ≤ 2
+    digits = two_digits n (omega arith)
 
-    many : length ns ≤ n → take shown ns ≡ take n ns
-    many h = take_all shown ns (omega arith) ∙ sym (take_all n ns h)
+    by : (b : Bool) → length (after_commas (among s (suc n) k)) ≤ 3 * k → length (after_commas (cond b (n ∷ among s (suc n) k) (among s (suc n) k))) ≤ 3 * suc k
+    by true h = omega (arith, digits, length-append (decimal n) (after_commas (among s (suc n) k)))
+    by false h = omega arith
 
-module _ (s : FlowSet) where
-  -- the flow that is the next of a set, some numbers on
-  above-next : (d n f : ℕ) → f ≡ d + (n + 1) → Next s n f → above s n ≡ f ∷ above s f
-  above-next zero n f e h =
-      let here : f ≡ n + 1 = omega arith in
-      subst (λ (m : ℕ). above s n ≡ m ∷ above s m) (sym here) (above-here s n (omega (arith, h.range)) (ap (has s) (sym here) ∙ h.member))
-  above-next (suc d) n f e h =
-      above-not s n (omega (arith, h.range)) (h.first (n + 1) (omega arith) (omega arith))
-      ∙ above-next d (n + 1) f (omega arith) (record { higher = omega arith; range = h.range; member = h.member; first = λ m low high. h.first m (omega arith) high })
+-- without the first comma, or a minus
+listed-le : (ns : List ℕ) (most : ℕ) → 1 ≤ most → length (after_commas ns) ≤ most → length (listed ns) ≤ most
+listed-le [] most some h = some
+listed-le (n ∷ ns) most some h = omega arith
 
-  -- the lowest flow above a number stands first among those above it
-  above-some : (n f : ℕ) → Some f ≡ slice_get (above s n) 0 → above s n ≡ f ∷ above s f
-  above-some n f e = let h = next-some s n f e in above-next (f - (n + 1)) n f (omega (arith, h.higher)) h
+pub listed-set : (s : FlowSet) → length (listed (above s 0)) ≤ 192
+unfolding above
+listed-set s = listed-le (among s 1 64) 192 (omega arith) (after-among s 64 1 (omega arith))
 
--- where there is no first there is none
-no-first : (ns : List ℕ) → None ≡ slice_get ns 0 → ns ≡ []
-no-first [] e = refl
-no-first (n ∷ ns) e = let z : ◌≡◌ {A = ℕ} 0 1 = cc in absurd (omega arith)
+-- some of the numbers take no more than all of them
+after-front : (xs ys : List ℕ) → length (after_commas xs) ≤ length (after_commas (xs ++ ys))
+after-front [] ys = omega arith
+after-front (x ∷ xs) ys = let h = after-front xs ys in omega (arith, length-append (decimal x) (after_commas xs), length-append (decimal x) (after_commas (xs ++ ys)))
 
--- a set with a lowest flow
-pub set-some : (s : FlowSet) (f : ℕ) → Some f ≡ slice_get (above s 0) 0 → listed (above s 0) ≡ decimal f ++ after_commas (above s f)
-set-some s f e = ap listed (above-some s 0 f e)
+pub after-part : (ns : List ℕ) (i : ℕ) → length (after_commas (take i ns)) ≤ length (after_commas ns)
+after-part ns i = subst (λ (xs : List ℕ). length (after_commas (take i ns)) ≤ length (after_commas xs)) (take-append-drop i ns) (after-front (take i ns) (drop i ns))
 
-module _ (s : FlowSet) (text : List ℕ) (first last : ℕ) (inv : text ++ after_commas (above s last) ≡ after_commas (above s first)) where
-  -- one flow more of a set
-  pub higher-more : (f : ℕ) → Some f ≡ slice_get (above s last) 0 → (text ++ (codes "," ++ decimal f)) ++ after_commas (above s f) ≡ after_commas (above s first)
-  higher-more f e = append_assoc text (44 ∷ decimal f) (after_commas (above s f)) ∙ ap (λ fs. text ++ after_commas fs) (sym (above-some s last f e)) ∙ inv
-
-  -- when no flow is left all are written
-  pub higher-all : None ≡ slice_get (above s last) 0 → text ≡ after_commas (above s first)
-  higher-all e = sym (append-nil text) ∙ ap (λ fs. text ++ after_commas fs) (sym (no-first (above s last) e)) ∙ inv
+-- the front of a list of at most 64 numbers of 8 bits
+pub listed-front : (ns : List ℕ) → ((k : ℕ) → get_or ns k 0 < 256) → length ns ≤ 64 → (n : ℕ) → length (listed (take n ns)) ≤ 256
+listed-front ns small few n =
+    let part = after-part ns n in
+    let most = after-most ns small in
+    listed-le (take n ns) 256 (omega arith) (omega arith)

@@ -10,3 +10,8 @@ pub record Wrote (out : List ℕ) (place : ℕ) (text out' : List ℕ) (end : �
   pub after : out' ≡ over out place text
   pub ends : end ≡ place + length text
   pub within : end ≤ length out
+
+-- a line was written at the front of the buffer, and has at most 512 bytes
+pub record WroteLine (out text out' : List ℕ) (end : ℕ) : Type 0 where
+  pub wrote : Wrote out 0 text out' end
+  pub most : end ≤ 512

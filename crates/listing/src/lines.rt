@@ -1,8 +1,8 @@
 //! The lines, and the calls that write them.
-ghost use Rattle.std.specs.Prelude.{◌≡◌, ◌+◌, ◌<◌, ◌≤◌, length, MatchResult};
+ghost use Rattle.std.specs.Prelude.{◌≡◌, ◌+◌, ◌<◌, ◌≤◌, length, take, MatchResult};
 ghost use Rattle.fault.specs.declared.console.ConsoleFault.TheVariants.{NoRoom};
-ghost use Rattle.listing.specs.Writing.{Wrote};
-ghost use Rattle.listing.specs.Lines.{Listed, process_line, answer_part, step_line, stop_name, stop_line, gateway_line, refusal_line};
+ghost use Rattle.listing.specs.Writing.{Wrote, WroteLine};
+ghost use Rattle.listing.specs.Lines.{Listed, listed, process_line, answer_part, step_line, stop_name, stop_line, gateway_line, refusal_line};
 
 use crate::writing::{write_answer, write_list, write_number, write_set, write_text};
 use engine::line::Line;
@@ -14,7 +14,11 @@ use process::draft::MOST_FLOWS;
 use service::answer::Answer;
 
 /// The bytes that have to stand from a place on for a line to be written there. Every line fits.
+// The contracts below name them as 512: `check_room` has tested that they stand there.
 pub const LINE_ROOM: usize = 512;
+
+// Each call below tests for room and lends the buffer's tail on. One call that took the writing as a closure would say of it,
+// in its contract, all that these two lines do.
 
 // Whether a buffer of this size has room for a line at a place.
 fn check_room(size: usize, place: usize) -> Result<(), ConsoleFault>
@@ -30,8 +34,7 @@ fn check_room(size: usize, place: usize) -> Result<(), ConsoleFault>
 // Writes the line of a process at the front of the buffer.
 fn write_process(out: &mut [u8], number: u16) -> usize
     requires { 512 ≤ length out.old }
-    ensures text { Wrote out.old 0 (process_line number) out.new result }
-    ensures most { result ≤ 512 }
+    ensures { WroteLine out.old (process_line number) out.new result }
 {
     let end = write_text(out, 0, b"process ");
     let end = write_number(out, end, u64::from(number));
@@ -46,7 +49,8 @@ pub fn list_process(out: &mut [u8], place: usize, number: u16) -> Result<usize, 
     Ok(place + write_process(&mut out[place..], number))
 }
 
-// Writes a task's answer; the step of another node has none.
+// Writes a task's answer; the step of another node has none. No Option: a line of the journal has an answer for every node,
+// 0 where it is no task, so whether it is one is told beside it.
 fn write_answer_part(out: &mut [u8], place: usize, is_task: bool, answer: Answer) -> usize
     requires { place + 29 ≤ length out.old }
     ensures text { Wrote out.old place (answer_part is_task answer) out.new result }
@@ -62,8 +66,7 @@ fn write_answer_part(out: &mut [u8], place: usize, is_task: bool, answer: Answer
 // Writes the line of a step at the front of the buffer.
 fn write_step(out: &mut [u8], step: u16, line: Line, is_task: bool) -> usize
     requires { 512 ≤ length out.old }
-    ensures text { Wrote out.old 0 (step_line step line is_task) out.new result }
-    ensures most { result ≤ 512 }
+    ensures { WroteLine out.old (step_line step line is_task) out.new result }
 {
     let end = write_text(out, 0, b"step ");
     let end = write_number(out, end, u64::from(step));
@@ -108,8 +111,7 @@ fn stop_name(stop: Stop) -> &'static [u8]
 // Writes the line of a stop at the front of the buffer.
 fn write_stop(out: &mut [u8], stop: Stop, steps: u16) -> usize
     requires { 512 ≤ length out.old }
-    ensures text { Wrote out.old 0 (stop_line stop steps) out.new result }
-    ensures most { result ≤ 512 }
+    ensures { WroteLine out.old (stop_line stop steps) out.new result }
 {
     let end = write_text(out, 0, stop_name(stop));
     let end = write_text(out, end, b" after ");
@@ -130,19 +132,28 @@ pub fn list_stop(
     Ok(place + write_stop(&mut out[place..], stop, steps))
 }
 
+// Writes the path of a reason, which stands at the front of the list. It has at most 64 flows, and each takes at most 4
+// bytes with its comma.
+fn write_path(out: &mut [u8], place: usize, reason: Reason, list: &[u8; MOST_FLOWS]) -> usize
+    requires { place + 256 ≤ length out.old }
+    ensures text { Wrote out.old place (listed (take reason.length list.now)) out.new result }
+    ensures most { result ≤ place + 256 }
+{
+    let shown = reason.length.min(MOST_FLOWS);
+    write_list(out, place, &list[..shown])
+}
+
 // Writes the line of a gateway that waits at the front of the buffer.
 fn write_gateway(out: &mut [u8], gateway: u8, reason: Reason, list: &[u8; MOST_FLOWS]) -> usize
     requires { 512 ≤ length out.old }
-    ensures text { Wrote out.old 0 (gateway_line gateway reason list.now) out.new result }
-    ensures most { result ≤ 512 }
+    ensures { WroteLine out.old (gateway_line gateway reason list.now) out.new result }
 {
-    let shown = reason.length.min(MOST_FLOWS);
     let end = write_text(out, 0, b"gateway ");
     let end = write_number(out, end, u64::from(gateway));
     let end = write_text(out, end, b" waits for flow ");
     let end = write_number(out, end, u64::from(reason.holder));
     let end = write_text(out, end, b" by ");
-    let end = write_list(out, end, &list[..shown]);
+    let end = write_path(out, end, reason, list);
     write_text(out, end, b"\n")
 }
 
@@ -164,14 +175,14 @@ pub fn list_gateway(
 // Writes the line of a refusal at the front of the buffer.
 fn write_refusal(out: &mut [u8], fault: FaultRecord) -> usize
     requires { 512 ≤ length out.old }
-    ensures text { Wrote out.old 0 (refusal_line fault) out.new result }
-    ensures most { result ≤ 512 }
+    ensures { WroteLine out.old (refusal_line fault) out.new result }
 {
     let end = write_text(out, 0, b"refused ");
     let end = write_number(out, end, u64::from(fault.number));
     let end = write_text(out, end, b" layer ");
     let end = write_number(out, end, u64::from(fault.layer));
     let end = write_text(out, end, b" place ");
+    // std has no `From<usize>` for u64; the cast is proved to lose nothing
     let end = write_number(out, end, fault.place as u64);
     write_text(out, end, b"\n")
 }

@@ -1,12 +1,18 @@
 //! The pieces of a line: words, numbers and flows. Each is written into a buffer from a place, and tells where it ended.
-ghost use Rattle.std.specs.Prelude.{◌+◌, ◌-◌, ◌*◌, ◌<◌, ◌≤◌, [], ◌∷◌, ◌++◌, length, codes, decimal};
+ghost use Rattle.std.specs.Prelude.{◌≡◌, ◌+◌, ◌-◌, ◌*◌, ◌<◌, ◌≤◌, [], ◌∷◌, ◌++◌, length, codes, decimal};
 ghost use Rattle.std.specs.Fmt.{signed_decimal};
+ghost use Rattle.process.specs.Rows.{items};
 ghost use Rattle.process.specs.Sets.{above};
 ghost use Rattle.listing.specs.Writing.{Wrote};
 ghost use Rattle.listing.specs.Lines.{after_commas, listed};
 
+use process::draft::MOST_FLOWS;
+use process::row::Row;
 use process::sets::FlowSet;
 use service::answer::Answer;
+
+// Buffer and place are passed from call to call. A struct that held both would have to promise at each call that it still
+// holds the same buffer, and say no more.
 
 /// Writes the bytes of a text.
 pub(crate) fn write_text(out: &mut [u8], place: usize, text: &[u8]) -> usize
@@ -28,7 +34,8 @@ fn write_digit(out: &mut [u8], place: usize, digit: u8) -> usize
     place + 1
 }
 
-// Writes the digits of a number: those before the last are the digits of its tenth.
+// Writes the digits of a number: those before the last are the digits of its tenth. By hand and not by std's Display,
+// since the way that digits are made is to stand in one place here. Each cast is of a number below 10.
 fn write_digits(out: &mut [u8], place: usize, number: u64) -> usize
     requires { place + length (decimal number) ≤ length out.old }
     ensures { Wrote out.old place (decimal number) out.new result }
@@ -72,11 +79,10 @@ fn write_after_comma(out: &mut [u8], place: usize, flow: u8) -> usize
     write_digits(out, digits, u64::from(flow))
 }
 
-// Writes the flows of a list, each after a comma. A number of 8 bits has at most 3 digits.
+// Writes the flows of a list, each after a comma.
 fn write_rest(out: &mut [u8], place: usize, flows: &[u8]) -> usize
-    requires { place + 4 * length flows.now ≤ length out.old }
-    ensures text { Wrote out.old place (after_commas flows.now) out.new result }
-    ensures most { result ≤ place + 4 * length flows.now }
+    requires { place + length (after_commas flows.now) ≤ length out.old }
+    ensures { Wrote out.old place (after_commas flows.now) out.new result }
 {
     let mut end = place;
     for flow in flows {
@@ -85,13 +91,10 @@ fn write_rest(out: &mut [u8], place: usize, flows: &[u8]) -> usize
     end
 }
 
-/// Writes the flows of a list in their order, with commas between them, or a minus where there is none. There are at most
-/// 64, and each takes at most 4 bytes with its comma.
+/// Writes the flows of a list in their order, with commas between them, or a minus where there is none.
 pub(crate) fn write_list(out: &mut [u8], place: usize, flows: &[u8]) -> usize
-    requires few { length flows.now ≤ 64 }
-    requires room { place + 256 ≤ length out.old }
-    ensures text { Wrote out.old place (listed flows.now) out.new result }
-    ensures most { result ≤ place + 256 }
+    requires { place + length (listed flows.now) ≤ length out.old }
+    ensures { Wrote out.old place (listed flows.now) out.new result }
 {
     match flows {
         [] => write_text(out, place, b"-"),
@@ -102,33 +105,23 @@ pub(crate) fn write_list(out: &mut [u8], place: usize, flows: &[u8]) -> usize
     }
 }
 
-// Writes the flows of a set above a number, lowest first, each after a comma. A flow's number has at most 2 digits.
-fn write_higher(out: &mut [u8], place: usize, flows: FlowSet, lowest: u8) -> usize
-    requires { place + 3 * (64 - lowest) ≤ length out.old }
-    ensures text { Wrote out.old place (after_commas (above flows lowest)) out.new result }
-    ensures most { result ≤ place + 3 * (64 - lowest) }
+// The flows of a set, lowest first, as a list.
+fn list_of(set: FlowSet) -> Row<u8, MOST_FLOWS>
+    ensures { items result ≡ above set 0 }
 {
-    let mut end = place;
-    let mut last = lowest;
-    while let Some(flow) = flows.next_after(last) {
-        end = write_after_comma(out, end, flow);
-        last = flow;
+    let mut flows = Row::new(0);
+    for flow in set.iter() {
+        flows.push(flow);
     }
-    end
+    flows
 }
 
 /// Writes the flows of a set, lowest first, with commas between them, or a minus where there is none. There are at most
 /// 64, and each takes at most 3 bytes with its comma.
-pub(crate) fn write_set(out: &mut [u8], place: usize, flows: FlowSet) -> usize
+pub(crate) fn write_set(out: &mut [u8], place: usize, set: FlowSet) -> usize
     requires { place + 192 ≤ length out.old }
-    ensures text { Wrote out.old place (listed (above flows 0)) out.new result }
+    ensures text { Wrote out.old place (listed (above set 0)) out.new result }
     ensures most { result ≤ place + 192 }
 {
-    match flows.lowest() {
-        None => write_text(out, place, b"-"),
-        Some(lowest) => {
-            let end = write_digits(out, place, u64::from(lowest));
-            write_higher(out, end, flows, lowest)
-        }
-    }
+    write_list(out, place, list_of(set).as_slice())
 }

@@ -1,14 +1,13 @@
 -- The pairs of a gateway with the flows that carry a token: how they are lined up, and how many of them count.
-use Rattle.std.proofs.Common.{◌≡◌, ℕ, zero, suc, ◌+◌, ◌-◌, ◌<◌, ◌≤◌, Bool, true, false, cond, List, [], ◌∷◌, ◌++◌, map, length, Some, None, Ok, Err, Result, sym, refl, ap, ◌∙◌, subst, append_assoc, append-nil, arith, length-append, MatchResult}
-use Rattle.std.specs.List.{slice_get}
+use Rattle.std.proofs.Common.{◌≡◌, ℕ, zero, suc, ◌+◌, ◌<◌, ◌≤◌, Bool, true, false, cond, List, [], ◌∷◌, ◌++◌, map, length, Ok, Err, Result, sym, refl, ap, ◌∙◌, append_assoc, arith, length-append, MatchResult}
 use Rattle.std.proofs.lemmas.Bool.{both_ways}
 use Rattle.fault.specs.declared.graph.GraphFault.{GraphFault}
 use Rattle.fault.specs.declared.graph.GraphFault.TheVariants.{Full}
 use Rattle.graph.specs.declared.worklist.WorkList.{WorkList}
 use Rattle.graph.specs.Ring.{entries, capacity}
 use Rattle.process.specs.declared.sets.FlowSet.{FlowSet}
-use Rattle.process.specs.Sets.{has, among, above, tally, Next}
-use Rattle.process.proofs.Ordered.{above-here, above-not, above-length, next-some}
+use Rattle.process.specs.Sets.{has, among, above, tally}
+use Rattle.process.proofs.Ordered.{above-length}
 use Rattle.model.specs.Rules.{how_many}
 use Rattle.paths.proofs.Counts.{tally-le}
 
@@ -18,56 +17,25 @@ pairs g = map (λ f. (g, f))
 
 -- ---- lining up
 
-module _ (s : FlowSet) where
-  -- the flow that is the next of a set, some numbers on
-  above-next : (d n f : ℕ) → f ≡ d + (n + 1) → Next s n f → above s n ≡ f ∷ above s f
-  above-next zero n f e h =
-      let here : f ≡ n + 1 = omega arith in
-      subst (λ (m : ℕ). above s n ≡ m ∷ above s m) (sym here) (above-here s n (omega (arith, h.range)) (ap (has s) (sym here) ∙ h.member))
-  above-next (suc d) n f e h =
-      above-not s n (omega (arith, h.range)) (h.first (n + 1) (omega arith) (omega arith))
-      ∙ above-next d (n + 1) f (omega arith) (record { higher = omega arith; range = h.range; member = h.member; first = λ m low high. h.first m (omega arith) high })
-
-  -- the lowest flow above a number stands first among those above it
-  above-some : (n f : ℕ) → Some f ≡ slice_get (above s n) 0 → above s n ≡ f ∷ above s f
-  above-some n f e = let h = next-some s n f e in above-next (f - (n + 1)) n f (omega (arith, h.higher)) h
-
-  -- a set has at most 64 flows
-  above-few : length (above s 0) ≤ 64
-  above-few = let most = tally-le (has s) 64 in omega (arith, above-length s)
-
--- where there is no first there is nothing
-no-first : (xs : List ℕ) → None ≡ slice_get xs 0 → xs ≡ []
-no-first [] e = refl
-no-first (x ∷ xs) e = let z : ◌≡◌ {A = ℕ} 0 1 = cc in absurd (omega arith)
-
 -- there are as many pairs as flows
 pairs-length : (g : ℕ) (fs : List ℕ) → length (pairs g fs) ≡ length fs
 pairs-length g [] = refl
 pairs-length g (f ∷ fs) = ap suc (pairs-length g fs)
 
-module _ (g : ℕ) (s : FlowSet) (n f : ℕ) (e : Some f ≡ slice_get (above s n) 0) (work : WorkList (ℕ × ℕ)) (inv : entries work ++ pairs g (above s n) ≡ pairs g (above s 0)) where
-  -- the next pair stands in front of those that are left
-  split : entries work ++ ((g, f) ∷ pairs g (above s f)) ≡ pairs g (above s 0)
-  split = ap (λ (fs : List ℕ). entries work ++ pairs g fs) (sym (above-some s n f e)) ∙ inv
-
+-- of all the flows, f and those behind it are yet to be lined up
+module _ (g f : ℕ) (rest all : List ℕ) (few : length all ≤ 64) (work : WorkList (ℕ × ℕ)) (inv : entries work ++ ((g, f) ∷ pairs g rest) ≡ pairs g all) where
   -- so not all places are taken
   room : length (entries work) < 64
   room =
-      let whole = sym (length-append (entries work) ((g, f) ∷ pairs g (above s f))) ∙ ap length split ∙ pairs-length g (above s 0) in
-      let most = above-few s in
+      let whole = sym (length-append (entries work) ((g, f) ∷ pairs g rest)) ∙ ap length inv ∙ pairs-length g all in
       omega arith
 
   -- the next pair finds room, and is lined up behind the others
   pub lined-more : (next : WorkList (ℕ × ℕ)) (r : Result (Unit {0}) GraphFault) → capacity work ≡ 64
       → MatchResult r (λ _. (length (entries work) < capacity work) × (entries next ≡ entries work ++ (g, f) ∷ [])) (λ e. (e ≡ Full) × (length (entries work) ≡ capacity work) × (next ≡ work))
-      → entries next ++ pairs g (above s f) ≡ pairs g (above s 0)
-  lined-more next (Ok u) places h = ap (λ (ps : List (ℕ × ℕ)). ps ++ pairs g (above s f)) h.1 ∙ append_assoc (entries work) ((g, f) ∷ []) (pairs g (above s f)) ∙ split
+      → entries next ++ pairs g rest ≡ pairs g all
+  lined-more next (Ok u) places h = ap (λ (ps : List (ℕ × ℕ)). ps ++ pairs g rest) h.1 ∙ append_assoc (entries work) ((g, f) ∷ []) (pairs g rest) ∙ inv
   lined-more next (Err u) places h = let l = room in absurd (omega (arith, h.1))
-
--- when no flow is left all are lined up
-pub lined-all : (g : ℕ) (s : FlowSet) (n : ℕ) (work : WorkList (ℕ × ℕ)) → None ≡ slice_get (above s n) 0 → entries work ++ pairs g (above s n) ≡ pairs g (above s 0) → entries work ≡ pairs g (above s 0)
-lined-all g s n work e inv = sym (append-nil (entries work)) ∙ ap (λ (fs : List ℕ). entries work ++ pairs g fs) (sym (no-first (above s n) e)) ∙ inv
 
 -- ---- counting
 

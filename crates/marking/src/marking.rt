@@ -14,7 +14,7 @@ mod methods;
 pub struct Marking<'a> {
     routing: &'a Routing,
     tokens: FlowSet,
-    // For each node, at its place: how many flows hold it back if it is an inclusive gateway, or 0.
+    // For each node, at its place: how many flows hold it back if it is an inclusive gateway, or 0, as the definition counts.
     holding: [u8; MOST_NODES],
     ghost right: { ∥ Kept (nodes_of (model_of routing.now)) (flows_of routing.now) tokens holding ∥₁ },
 }

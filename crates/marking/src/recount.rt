@@ -16,6 +16,7 @@ use paths::rule::holders;
 use process::draft::{MOST_FLOWS, MOST_NODES};
 use process::node::Kind;
 use process::sets::FlowSet;
+use std::array;
 
 // Lines up the gateway with each flow that carries a token, lowest first, to be looked at.
 fn line_up(work: &mut WorkList<(u8, u8)>, gateway: u8, tokens: FlowSet)
@@ -23,10 +24,8 @@ fn line_up(work: &mut WorkList<(u8, u8)>, gateway: u8, tokens: FlowSet)
     requires places { capacity work.old ≡ 64 }
     ensures { entries work.new ≡ map (λ f. (gateway, f)) (above tokens 0) }
 {
-    let mut last = 0;
-    while let Some(flow) = tokens.next_after(last) {
+    for flow in tokens.iter() {
         let _ = work.put((gateway, flow));
-        last = flow;
     }
 }
 
@@ -39,6 +38,7 @@ fn recount_gateway(routing: &Routing, tokens: FlowSet, gateway: u8) -> u8
     let mut work = WorkList::new(&mut memory);
     line_up(&mut work, gateway, tokens);
     let mut number = 0;
+    // the work list is no iterator: what is taken out is gone
     while let Ok((_, flow)) = work.take() {
         if held_by.contains(flow) {
             number += 1;
@@ -61,9 +61,6 @@ fn recount_node(routing: &Routing, tokens: FlowSet, node: u8) -> u8
 pub(crate) fn recount(routing: &Routing, tokens: FlowSet) -> [u8; MOST_NODES]
     ensures { Kept (nodes_of (model_of routing.now)) (flows_of routing.now) tokens result }
 {
-    let mut numbers = [0; MOST_NODES];
-    for place in 0..MOST_NODES {
-        numbers[place] = recount_node(routing, tokens, place as u8 + 1);
-    }
-    numbers
+    // a place below 40: the cast is proved to lose nothing
+    array::from_fn(|place| recount_node(routing, tokens, place as u8 + 1))
 }

@@ -1,12 +1,8 @@
 -- A rule that is checked number by number, and nodes and flows by their numbers.
-use Rattle.std.proofs.Common.{◌≡◌, ℕ, zero, suc, ◌+◌, ◌-◌, ◌<◌, ◌≤◌, min, Bool, true, false, cond, ◌⊎◌, List, length, get_or, take, Ok, Err, Result, sym, refl, ap, ◌∙◌, inl, inr, ⊎_elim, add-one, arith}
-use Rattle.std.proofs.lemmas.List.{get_or_past, take_all}
+use Rattle.std.proofs.Common.{◌≡◌, ℕ, zero, suc, ◌+◌, ◌<◌, ◌≤◌, Bool, true, false, cond, ◌⊎◌, Ok, Err, Result, sym, refl, ap, ◌∙◌, inl, inr, ⊎_elim, add-one, arith}
 use Rattle.std.proofs.lemmas.Bool.{cases_lt, cases_Bool, cond-true, cond-false}
 use Rattle.fault.specs.declared.model.ModelFault.{ModelFault}
-use Rattle.process.specs.declared.flow.Flow.{Flow}
-use Rattle.process.specs.declared.node.Kind.{Kind}
-use Rattle.process.specs.declared.node.Kind.TheVariants.{Start}
-use Rattle.model.specs.Rules.{checked, next_checked, kind_at, flow_at, no_flow}
+use Rattle.model.specs.Rules.{checked, next_checked}
 
 module _ (rule : ℕ → Bool) (fault : ℕ → ModelFault) (i : ℕ) (fine : checked rule fault i ≡ Ok tt) where
   next : (b : Bool) → b ≡ rule (i + 1) → checked rule fault (i + 1) ≡ cond b (Ok tt) (Err (fault (i + 1)))
@@ -15,9 +11,6 @@ module _ (rule : ℕ → Bool) (fault : ℕ → ModelFault) (i : ℕ) (fine : ch
       ∙ ap (next_checked rule fault (suc i)) fine
       ∙ ap (λ n. cond (rule n) (Ok tt) (Err (fault n))) (sym (add-one i))
       ∙ ap (λ t. cond t (Ok tt) (Err (fault (i + 1)))) (sym e)
-
-  pub checked-more : true ≡ rule (i + 1) → checked rule fault (i + 1) ≡ Ok tt
-  checked-more e = next true e
 
   later : (m : ℕ) → checked rule fault (i + 1) ≡ Err (fault (i + 1)) → i + 1 ≤ m → checked rule fault m ≡ Err (fault (i + 1))
   later zero e h = absurd (omega arith)
@@ -29,28 +22,6 @@ module _ (rule : ℕ → Bool) (fault : ℕ → ModelFault) (i : ℕ) (fine : ch
 
   pub checked-stop : (m : ℕ) → false ≡ rule (i + 1) → i + 1 ≤ m → checked rule fault m ≡ Err (fault (i + 1))
   checked-stop m e h = later m (next false e) h
-
-pub no_kind : (nodes : List Kind) (n : ℕ) → (n ≡ 0) ⊎ (length nodes < n) → Start ≡ kind_at nodes n
-no_kind nodes zero h = refl
-no_kind nodes (suc k) (inl e) = absurd (omega arith)
-no_kind nodes (suc k) (inr h) = sym (get_or_past nodes k Start (omega arith))
-
-pub some-kind : (nodes : List Kind) (n : ℕ) → 1 ≤ n → get_or nodes (n - 1) Start ≡ kind_at nodes n
-some-kind nodes zero h = absurd (omega arith)
-some-kind nodes (suc k) h = let e : suc k - 1 ≡ k = omega arith in ap (λ m. get_or nodes m Start) e
-
-pub no-flow-there : (flows : List Flow) (n : ℕ) → (n ≡ 0) ⊎ (length flows < n) → no_flow ≡ flow_at flows n
-no-flow-there flows zero h = refl
-no-flow-there flows (suc k) (inl e) = absurd (omega arith)
-no-flow-there flows (suc k) (inr h) = sym (get_or_past flows k no_flow (omega arith))
-
--- a front that is cut at the end of the list
-pub take-cut : {X : Type 0} (xs : List X) (k n : ℕ) → k ≡ min n (length xs) → take k xs ≡ take n xs
-take-cut xs k n e =
-    ⊎_elim
-    (λ lt. let same : k ≡ n = omega (arith, e) in ap (λ m. take m xs) same)
-    (λ ge. let all : length xs ≤ k = omega (arith, e) in take_all k xs all ∙ sym (take_all n xs ge))
-    (cases_lt n (length xs))
 
 -- what a verdict says of each number
 module _ (rule : ℕ → Bool) (fault : ℕ → ModelFault) where

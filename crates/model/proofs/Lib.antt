@@ -1,5 +1,5 @@
+pub mod Chains
 pub mod Checks
 pub mod First
 pub mod Judging
 pub mod Reaching
-pub mod Tallies

@@ -1,6 +1,5 @@
 -- The nodes next to a node, and those that can be reached.
-use Rattle.std.proofs.Common.{◌≡◌, ℕ, zero, suc, ◌+◌, ◌<◌, ◌≤◌, Bool, true, false, cond, ◌&&◌, ◌||◌, eqb, leb, List, [], ◌∷◌, length, get_or, drop, Ok, Err, Decides, Result, sym, refl, ap, ◌∙◌, subst, inl, inr, ⊎_elim, arith, eq-eqb, ne_eqb}
-use Rattle.std.proofs.lemmas.List.{drop_more, at_drop_more}
+use Rattle.std.proofs.Common.{◌≡◌, ℕ, zero, suc, ◌+◌, ◌≤◌, Bool, true, false, cond, ◌&&◌, ◌||◌, eqb, leb, List, [], ◌∷◌, length, Ok, Err, Decides, Result, sym, refl, ap, ◌∙◌, subst, inl, inr, ⊎_elim, arith, eq-eqb}
 use Rattle.std.proofs.lemmas.Bool.{cases_lt, and_parts, leb-true, eqb-true, or_cases, or_left, or_right, both_ways, false≢true}
 use Rattle.fault.specs.declared.model.ModelFault.{ModelFault}
 use Rattle.fault.specs.declared.model.ModelFault.TheVariants.{NotReached}
@@ -9,9 +8,8 @@ use Rattle.graph.proofs.Holding.{not_more}
 use Rattle.std.specs.List.{list_any}
 use Rattle.process.specs.declared.flow.Flow.{Flow}
 use Rattle.process.specs.declared.node.Kind.{Kind}
-use Rattle.process.specs.declared.node.Kind.TheVariants.{Start}
 use Rattle.process.specs.Processes.{is_node, flow_formed, flows_formed, guard_in_range}
-use Rattle.model.specs.Rules.{outgoing, no_flow, is_start, checked}
+use Rattle.model.specs.Rules.{outgoing, is_start, checked}
 use Rattle.model.specs.Sound.{successors, start_of, CanBeReached, ReachedVerdict, member}
 use Rattle.model.proofs.Checks.{checked-all, checked-first}
 
@@ -20,22 +18,6 @@ successors-count [] n = refl
 successors-count (f ∷ fs) n =
     elim (eqb f.from n) as (λ b. cond b 1 0 + outgoing fs n ≡ length (cond b (f.to ∷ successors fs n) (successors fs n)))
     [ true ↦ omega (arith, successors-count fs n) | false ↦ omega (arith, successors-count fs n) ]
-
-module _ (fs : List Flow) (i n : ℕ) (inside : i < length fs) where
-  split : (b : Bool) → eqb (get_or fs i no_flow).from n ≡ b → successors (drop i fs) n ≡ cond b ((get_or fs i no_flow).to ∷ successors (drop (i + 1) fs) n) (successors (drop (i + 1) fs) n)
-  split b e = ap (λ xs. successors xs n) (drop_more fs i no_flow inside)
-      ∙ ap (λ t. cond t ((get_or fs i no_flow).to ∷ successors (drop (i + 1) fs) n) (successors (drop (i + 1) fs) n)) e
-
-  pub leads : (get_or fs i no_flow).from ≡ n → successors (drop i fs) n ≡ (get_or fs i no_flow).to ∷ successors (drop (i + 1) fs) n
-  leads e = split true (eq-eqb (get_or fs i no_flow).from n e)
-
-  pub leads-not : ((get_or fs i no_flow).from ≡ n → ⊥) → successors (drop i fs) n ≡ successors (drop (i + 1) fs) n
-  leads-not e = split false (ne_eqb (get_or fs i no_flow).from n e)
-
-module _ (ks : List Kind) (i : ℕ) (inv : start_of ks ≡ i + start_of (drop i ks)) where
-  pub start-here : (b : Bool) → i < length ks → b ≡ is_start (get_or ks i Start) → start_of ks ≡ i + cond b 1 (suc (start_of (drop (i + 1) ks)))
-  start-here b inside e =
-      inv ∙ ap (λ m. i + m) (at_drop_more start_of ks i Start inside ∙ ap (λ t. cond t 1 (suc (start_of (drop (i + 1) ks)))) (sym e))
 
 pub member-decides : (xs : List ℕ) (n : ℕ) → Decides (member xs n) (Holds xs n)
 member-decides [] n = (λ e. absurd (false≢true e), λ h. absurd h)

@@ -1,3 +1,4 @@
+pub mod Asking
 pub mod Models
 pub mod Rules
 pub mod Sound

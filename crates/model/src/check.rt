@@ -1,33 +1,30 @@
-//! A rule, checked number by number.
-ghost use Rattle.std.specs.Prelude.{◌≡◌, ℕ, Bool};
+//! A rule, checked item by item.
+ghost use Rattle.std.specs.Prelude.{◌≡◌, ℕ, ◌≤◌, Bool, length};
 ghost use Rattle.fault.specs.declared.model.ModelFault.{ModelFault};
+ghost use Rattle.model.specs.Asking.{Asks, Tells};
 ghost use Rattle.model.specs.Rules.{checked};
 
 use fault::model::ModelFault;
 
-/// A rule that each node, or each flow, keeps or breaks.
-pub(crate) trait Rule {
-    ghost kept: { Self → ℕ → Bool };
-
-    ghost broken: { Self → ℕ → ModelFault };
-
-    /// Whether the node or flow with this number keeps the rule.
-    fn keeps(&self, number: u8) -> bool
-        ensures { result ≡ kept self.now number };
-
-    /// The fault of the node or flow with this number.
-    fn fault(&self, number: u8) -> ModelFault
-        ensures { result ≡ broken self.now number };
-}
-
-/// Refuses the lowest of the numbers from 1 to `count` that breaks the rule.
-pub(crate) fn check<R: Rule>(rule: &R, count: u8) -> Result<(), ModelFault>
-    ensures { result ≡ checked (R.Rule.kept rule.now) (R.Rule.broken rule.now) count }
+/// Refuses the first of some nodes or flows that breaks a rule. `keeps` is asked of the number and the node or flow
+/// itself, and `fault` tells the fault of the number.
+pub(crate) fn check<T: Copy, K: Fn(u8, T) -> bool, F: Fn(u8) -> ModelFault>(
+    items: &[T],
+    keeps: K,
+    fault: F,
+) -> Result<(), ModelFault>
+    requires few { length items.now ≤ 64 }
+    requires keeps_callable { K.IsAlwaysCallable keeps }
+    requires fault_callable { F.IsAlwaysCallable fault }
+    ensures { (rule : ℕ → Bool) (broken : ℕ → ModelFault)
+        → Asks (K.post keeps) items.now rule → Tells (F.post fault) (length items.now) broken
+        → result ≡ checked rule broken (length items.now) }
 {
-    for before in 0..count {
-        let number = before + 1;
-        if !rule.keeps(number) {
-            return Err(rule.fault(number));
+    for (place, item) in items.iter().enumerate() {
+        // The cast is proved to lose nothing, where `try_from` would bring a refusal that cannot come.
+        let number = place as u8 + 1;
+        if !keeps(number, *item) {
+            return Err(fault(number));
         }
     }
     Ok(())

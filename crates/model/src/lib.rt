@@ -5,4 +5,3 @@ mod check;
 pub mod model;
 mod reached;
 mod rules;
-mod tally;

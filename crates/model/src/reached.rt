@@ -1,12 +1,10 @@
 //! Whether each node can be reached from the start, asked of the search.
 ghost use Rattle.std.specs.Prelude.{◌≡◌, ◌≤◌, length};
-ghost use Rattle.fault.specs.declared.model.ModelFault.TheVariants as faults;
 ghost use Rattle.process.specs.Drafts.{nodes_of, flows_of};
-ghost use Rattle.model.specs.Sound.{successors, start_of, member, ReachedVerdict};
+ghost use Rattle.model.specs.Sound.{successors, start_of, ReachedVerdict};
 
-use crate::check::{Rule, check};
-use crate::rules::{Leaves, is_start};
-use crate::tally::how_many;
+use crate::check::check;
+use crate::rules::outgoing;
 use fault::model::ModelFault;
 use graph::places::Graph;
 use graph::search::reach;
@@ -26,56 +24,29 @@ impl<'a> Graph for Nodes<'a> {
     ghost next = { λ g n. successors g.flows.now n };
 
     fn degree(&self, node: u8) -> usize {
-        how_many(self.flows, &Leaves { node })
+        outgoing(self.flows, node)
     }
 
     fn neighbour(&self, node: u8, index: usize) -> Option<u8> {
-        let mut before = index;
-        for flow in self.flows {
-            if flow.from == node {
-                if before == 0 {
-                    return Some(flow.to);
-                }
-                before -= 1;
-            }
-        }
-        None
+        self.flows
+            .iter()
+            .filter(|flow| flow.from == node)
+            .nth(index)
+            .map(|flow| flow.to)
     }
 }
 
-// The number of the start.
+// The number of the start; where there is none, the one after the last, as the definition says.
 fn start_of(nodes: &[Kind]) -> u8
     requires { length nodes.now ≤ 40 }
     ensures { result ≡ start_of nodes.now }
 {
-    let mut number = 1;
-    for kind in nodes {
-        if is_start(*kind) {
-            return number;
-        }
-        number += 1;
-    }
-    number
-}
-
-// Each node is among those that were found.
-#[derive(Clone, Copy)]
-struct FoundRule<'a> {
-    found: &'a [u8],
-}
-
-impl<'a> Rule for FoundRule<'a> {
-    ghost kept = { λ s n. member s.found.now n };
-
-    ghost broken = { λ s n. faults.NotReached n };
-
-    fn keeps(&self, node: u8) -> bool {
-        self.found.contains(&node)
-    }
-
-    fn fault(&self, node: u8) -> ModelFault {
-        ModelFault::NotReached { node }
-    }
+    // at most 40: the cast is proved to lose nothing
+    nodes
+        .iter()
+        .take_while(|kind| !matches!(kind, Kind::Start))
+        .count() as u8
+        + 1
 }
 
 /// Refuses the lowest node that cannot be reached from the start.
@@ -91,8 +62,10 @@ pub(crate) fn check_reached(draft: &Draft) -> Result<(), ModelFault>
     let Ok(number) = reach(&Nodes { flows }, &[start], &mut found, &mut work) else {
         unreachable()
     };
-    let rule = FoundRule {
-        found: &found[0..number],
-    };
-    check(&rule, nodes.len() as u8)
+    let reached = &found[..number];
+    check(
+        nodes,
+        |node, _| reached.contains(&node),
+        |node| ModelFault::NotReached { node },
+    )
 }

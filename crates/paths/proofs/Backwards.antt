@@ -36,6 +36,23 @@ module _ (s : FlowSet) where
       by true q later = ⊎_elim inl (λ ne. inr (later ne)) (cases_eq n f)
       by false q later = later (λ e. both_ways _ q (ap (has s) e ∙ t))
 
+  among-range : (k n f : ℕ) → Holds (among s n k) f → (n ≤ f) × (f < n + k)
+  unfolding among
+  among-range zero n f h = absurd h
+  among-range (suc k) n f h = by (has s n) (among-range k (suc n) f) h
+    where
+      later : (suc n ≤ f) × (f < suc n + k) → (n ≤ f) × (f < n + suc k)
+      later p = (omega (arith, p.0), omega (arith, p.1))
+
+      by : (b : Bool) → (Holds (among s (suc n) k) f → (suc n ≤ f) × (f < suc n + k)) → Holds (cond b (n ∷ among s (suc n) k) (among s (suc n) k)) f → (n ≤ f) × (f < n + suc k)
+      by true more (inl e) = (omega (arith, e), omega (arith, e))
+      by true more (inr q) = later (more q)
+      by false more q = later (more q)
+
+  pub above-range : (f : ℕ) → Holds (above s 0) f → (1 ≤ f) × (f ≤ 64)
+  unfolding above
+  above-range f h = let p = among-range 64 1 f h in (p.0, omega (arith, p.1))
+
   pub above-has : (f : ℕ) → Holds (above s 0) f → has s f ≡ true
   unfolding above
   above-has f h = among-has 64 1 f h

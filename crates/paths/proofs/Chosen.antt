@@ -1,13 +1,17 @@
 -- Sets of the flows that pass a test: the flows that enter or leave a node, and those that may come before a flow.
-use Rattle.std.proofs.Common.{◌≡◌, ℕ, zero, suc, ◌+◌, ◌-◌, ◌≤◌, Bool, true, false, cond, eqb, List, length, get_or, Decides, sym, refl, ap, ◌∙◌, subst, ap₂, ⊎_elim, add-one, arith}
+use Rattle.std.proofs.Common.{◌≡◌, ℕ, zero, suc, ◌+◌, ◌<◌, ◌≤◌, Bool, true, false, cond, eqb, List, Some, None, Option, length, get_or, Decides, sym, refl, ap, ◌∙◌, subst, ap₂, ⊎_elim, add-one, arith}
+use Rattle.std.specs.Option.{unwrap_or}
+use Rattle.std.proofs.lemmas.List.{get_or_read}
+use Rattle.std.proofs.lemmas.Option.{get_or_from_slice_get, slice_get-get_or, slice_get_within, unwrap_or-slice_get}
 use Rattle.std.proofs.lemmas.Bool.{eqb-true, eqb-false, eq-eqb, ne_eqb, cases_eq, both_ways, and_parts, or_cases, or_left, or_right}
 use Rattle.process.specs.declared.flow.Flow.{Flow}
 use Rattle.process.specs.declared.sets.FlowSet.{FlowSet}
 use Rattle.process.specs.Sets.{in_range, has, no_flows, just, joined}
 use Rattle.process.proofs.Membership.{has-no_flows, has-just, has_one, has-joined}
 use Rattle.model.specs.Rules.{flow_at, no_flow}
-use Rattle.paths.specs.Paths.{source, target, Inbound, Outgoing}
+use Rattle.paths.specs.Paths.{source, target, IsFlow, Inbound, Outgoing}
 use Rattle.paths.specs.Links.{chosen, entering, leaving, Step, leaders}
+use Rattle.process.specs.Numbered.{numbered}
 
 -- ---- what was chosen
 
@@ -67,20 +71,29 @@ chosen-skip p i s t e = subst (λ (n : ℕ). p n ≡ false → s ≡ chosen p n)
     at_suc : p (suc i) ≡ false → s ≡ chosen p (suc i)
     at_suc t = e ∙ ap (λ (b : Bool). cond b (joined (chosen p i) (just (suc i))) (chosen p i)) (sym t)
 
--- the nodes of the flow at a place
-pub target_at : (flows : List Flow) (i : ℕ) → target flows (i + 1) ≡ (get_or flows i no_flow).to
-unfolding target
-target_at flows i = ap (λ (n : ℕ). (flow_at flows n).to) (add-one i)
+-- ---- the flow of a number
 
+pub flow-there : (flows fs : List Flow) (i : ℕ) (x : Flow) → fs ≡ flows → i < length fs → x ≡ get_or fs i x → x ≡ flow_at flows (i + 1)
+flow-there flows fs i x same within at =
+    get_or_read fs i x within at no_flow ∙ ap (λ (xs : List Flow). get_or xs i no_flow) same ∙ ap (flow_at flows) (sym (add-one i))
+
+pub numbered-flow : (flows : List Flow) (n : ℕ) (x : Flow) → Some x ≡ numbered flows n → IsFlow flows n × (flow_at flows n ≡ x)
+numbered-flow flows zero x e = cc
+numbered-flow flows (suc k) x e =
+    let within = slice_get_within flows k x (sym e) in
+    ((omega arith, within), get_or_from_slice_get flows k x no_flow (sym e))
+
+pub numbered-none : (flows : List Flow) (n : ℕ) → None ≡ numbered flows n → (IsFlow flows n → ⊥) × (flow_at flows n ≡ no_flow)
+numbered-none flows zero e = (λ i. omega (arith, i.0), refl)
+numbered-none flows (suc k) e = (
+  λ i. let some = slice_get-get_or flows k no_flow i.1 in cc,
+  sym (unwrap_or-slice_get flows k no_flow) ∙ ap (λ (o : Option Flow). unwrap_or o no_flow) (sym e),
+)
+
+-- the node that the flow at a place leaves
 pub source-at : (flows : List Flow) (i : ℕ) → source flows (i + 1) ≡ (get_or flows i no_flow).from
 unfolding source
 source-at flows i = ap (λ (n : ℕ). (flow_at flows n).from) (add-one i)
-
-pub target-before : (flows : List Flow) (n : ℕ) → 1 ≤ n → target flows n ≡ (get_or flows (n - 1) no_flow).to
-target-before flows n h = let e : n ≡ (n - 1) + 1 = omega arith in ap (target flows) e ∙ target_at flows (n - 1)
-
-pub source-before : (flows : List Flow) (n : ℕ) → 1 ≤ n → source flows n ≡ (get_or flows (n - 1) no_flow).from
-source-before flows n h = let e : n ≡ (n - 1) + 1 = omega arith in ap (source flows) e ∙ source-at flows (n - 1)
 
 -- ---- the flows of a node
 

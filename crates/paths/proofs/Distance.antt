@@ -1,6 +1,8 @@
 -- The levels of flows around a flow, how many there can be, and that they tell what the flow reaches.
-use Rattle.std.proofs.Common.{◌≡◌, ℕ, zero, suc, ◌+◌, ◌<◌, ◌≤◌, true, false, ◌&&◌, ◌⊎◌, List, length, Decides, sym, refl, ap, ◌∙◌, subst, inl, inr, ⊎_elim, le_refl, zero-add, add-one, arith}
-use Rattle.std.proofs.lemmas.Bool.{eqb-true, eq-eqb, cases_Bool, both_ways, and_parts, and_from, or_cases, or_left, or_right, not-true, not_from_false}
+use Rattle.std.proofs.Common.{◌≡◌, ℕ, zero, suc, ◌+◌, ◌<◌, ◌≤◌, true, false, ◌&&◌, ◌⊎◌, List, [], ◌∷◌, ◌++◌, length, Decides, sym, refl, ap, ◌∙◌, subst, inl, inr, ⊎_elim, le_refl, zero-add, add-one, arith, length-append}
+use Rattle.std.proofs.Math.ListN.{get_or-append}
+use Rattle.std.proofs.Math.Seq.{get_or-append_seam}
+use Rattle.std.proofs.lemmas.Bool.{eqb-true, eq-eqb, cases_eq, cases_Bool, both_ways, and_parts, and_from, or_cases, or_left, or_right, not-true, not_from_false}
 use Rattle.process.specs.declared.flow.Flow.{Flow}
 use Rattle.process.specs.declared.sets.FlowSet.{FlowSet}
 use Rattle.process.specs.Sets.{has, just, shared, is_none, tally}
@@ -11,7 +13,7 @@ use Rattle.paths.specs.Tables.{at_place}
 use Rattle.paths.specs.Levels.{comes_after, grown, level}
 use Rattle.paths.proofs.Chosen.{chosen-has, has_chosen, leads, led}
 use Rattle.paths.proofs.Counts.{tally-strict, tally-le}
-use Rattle.paths.proofs.Walks.{Walk, listed, walked, starts, onward}
+use Rattle.paths.proofs.Walks.{Walk, listed, walked, starts, onward, reaching-flow}
 use Rattle.paths.proofs.Walks.Walk.{stop, go}
 
 shift : (d k : ℕ) → d + suc k ≡ suc d + k
@@ -133,14 +135,38 @@ module _ (flows : List Flow) (few : length flows ≤ 64) (g : ℕ) where
 
 -- ---- the loop that makes the levels
 
-pub level-start : (flows : List Flow) (g f : ℕ) → just f ≡ level flows g f 0
-unfolding level
-level-start flows g f = refl
+-- The sets are the first levels around f, none of which has e, and s is the next.
+pub record Climb (flows : List Flow) (g f e : ℕ) (sets : List FlowSet) (s : FlowSet) : Type 0 where
+  pub few : length sets < 64
+  pub each : (k : ℕ) → k < length sets → at_place sets k ≡ level flows g f k
+  pub next : s ≡ level flows g f (length sets)
+  pub first : (k : ℕ) → k < length sets → has (level flows g f k) e ≡ false
 
-pub level-more : (flows : List Flow) (g f k : ℕ) → grown flows g (level flows g f k) ≡ level flows g f (k + 1)
-unfolding level
-level-more flows g f k = subst (λ (n : ℕ). grown flows g (level flows g f k) ≡ level flows g f n) (sym (add-one k)) refl
+module _ (flows : List Flow) (few : length flows ≤ 64) (g f e : ℕ) (reached : Reaches flows g f e) where
+  pub climb-start : (sets : List FlowSet) (s : FlowSet) → sets ≡ [] → s ≡ just f → Climb flows g f e sets s
+  unfolding level
+  climb-start sets s none one =
+      let zero-long : length sets ≡ 0 = ap length none in
+      record {
+        few = omega arith;
+        each = λ k l. absurd (omega arith);
+        next = one ∙ ap (level flows g f) (sym zero-long);
+        first = λ k l. absurd (omega arith);
+      }
 
-pub first-only : (sets : List FlowSet) (F : ℕ → FlowSet) → at_place sets 0 ≡ F 0 → (j : ℕ) → j ≤ 0 → at_place sets j ≡ F j
-first-only sets F e zero h = e
-first-only sets F e (suc j) h = absurd (omega arith)
+  pub climb-more : (sets more : List FlowSet) (s next : FlowSet) → Climb flows g f e sets s → has s e ≡ false → more ≡ sets ++ s ∷ [] → next ≡ grown flows g s → Climb flows g f e more next
+  unfolding level
+  climb-more sets more s next c ne put is =
+      let n = length sets in
+      let long : length more ≡ n + 1 = ap length put ∙ length-append sets (s ∷ []) in
+      let missing : has (level flows g f n) e ≡ false = ap (λ (t : FlowSet). has t e) (sym c.next) ∙ ne in
+      let far = not-far flows few g f (reaching-flow flows g f e reached) e n reached missing in
+      let at : (k : ℕ) → at_place more k ≡ at_place (sets ++ s ∷ []) k = λ k. ap (λ (ts : List FlowSet). at_place ts k) put in
+      record {
+        few = omega arith;
+        each = λ k l.
+            ⊎_elim (λ q. at k ∙ ap (at_place (sets ++ s ∷ [])) q ∙ get_or-append_seam sets s [] (record { bits = 0 }) ∙ c.next ∙ ap (level flows g f) (sym q))
+            (λ q. let l' : k < n = omega arith in at k ∙ get_or-append sets (s ∷ []) (record { bits = 0 }) k l' ∙ c.each k l') (cases_eq k n);
+        next = is ∙ ap (grown flows g) c.next ∙ ap (level flows g f) (sym (long ∙ add-one n));
+        first = λ k l. ⊎_elim (λ q. ap (λ (j : ℕ). has (level flows g f j) e) q ∙ missing) (λ q. c.first k (omega arith)) (cases_eq k n);
+      }

@@ -1,17 +1,19 @@
 -- The flows that hold a gateway back, from the tables.
-use Rattle.std.proofs.Common.{◌≡◌, ℕ, ◌+◌, ◌<◌, ◌≤◌, Bool, true, false, not, ◌&&◌, ◌⊎◌, List, length, Decides, sym, ap, ◌∙◌, subst, inl, inr, ⊎_elim, arith}
+use Rattle.std.proofs.Common.{◌≡◌, ℕ, ◌+◌, ◌<◌, ◌≤◌, Bool, true, false, not, ◌&&◌, ◌⊎◌, ◌↔◌, List, [], ◌∷◌, length, Decides, sym, refl, ap, ◌∙◌, subst, inl, inr, ⊎_elim, arith}
 use Rattle.std.proofs.lemmas.Bool.{cases_Bool, cases_eq, both_ways, and_parts, and_from, or_cases, or_left, or_right, not-true, not_from_false}
+use Rattle.graph.specs.Reach.{Holds}
 use Rattle.process.specs.declared.flow.Flow.{Flow}
 use Rattle.process.specs.declared.sets.FlowSet.{FlowSet}
-use Rattle.process.specs.Sets.{has, no_flows, joined, shared, without, is_none, tally}
+use Rattle.process.specs.Sets.{has, no_flows, joined, shared, without, is_none, above, tally}
 use Rattle.process.proofs.Membership.{has-no_flows, has-joined, has-shared, has-without, none-in-zero, some_in}
 use Rattle.paths.specs.Paths.{IsFlow, Inbound, Reaches, HoldsBack, TokenInbound, PathRule, HoldingNumber}
 use Rattle.paths.specs.Tables.{at_place, row, Sources, LeadsTo}
+use Rattle.paths.proofs.Backwards.{above-has, above_holds, above-range}
 use Rattle.paths.proofs.Counts.{number-from-tally, tally-above}
 use Rattle.paths.proofs.Lookups.{row_at}
 use Rattle.paths.proofs.Walks.{reaching-flow}
 
--- ---- one turn of the loop that joins the sets of some flows
+-- ---- the sets of some flows, joined in the order of their numbers
 
 module _ (table : List FlowSet) (ends : FlowSet) where
   pub lead-none : (found : FlowSet) → found ≡ no_flows → (f : ℕ) → Decides (has found f) (LeadsTo table ends 0 f)
@@ -39,6 +41,39 @@ module _ (table : List FlowSet) (ends : FlowSet) where
   lead-skip i found next t e inv f = (
     λ h. lead-on i f ((inv f).0 (ap (λ (s : FlowSet). has s f) (sym e) ∙ h)),
     λ p. ap (λ (s : FlowSet). has s f) e ∙ ⊎_elim (inv f).1 (λ new. absurd (both_ways _ t new.0)) (lead-split i f p),
+  )
+
+  -- ---- the same, joined one after another
+
+  -- what was found, with what the sets of the flows `rest` have, is what leads to `ends`
+  abbrev pub Joining : FlowSet → List ℕ → Type 0
+  Joining found rest = (f : ℕ) → (has found f ≡ true ⊎ ((e : ℕ) × Holds rest e × (has (row table e) f ≡ true))) ↔ LeadsTo table ends 64 f
+
+  pub joining-start : (found : FlowSet) → found ≡ no_flows → (rest : List ℕ) → rest ≡ above ends 0 → Joining found rest
+  joining-start found none rest all f = (
+    ⊎_elim
+        (λ h. absurd (both_ways _ (ap (λ (s : FlowSet). has s f) none ∙ has-no_flows f) h))
+        (λ p. let h = subst (λ (xs : List ℕ). Holds xs p.0) all p.1 in let r = above-range ends p.0 h in (p.0, r.0, r.1, above-has ends p.0 h, p.2)),
+    λ l. inr (l.0, subst (λ (xs : List ℕ). Holds xs l.0) (sym all) (above_holds ends l.0 l.1 l.2 l.3), l.4),
+  )
+
+  pub joining-more : (found more : FlowSet) (e : ℕ) (rest : List ℕ) → more ≡ joined found (row table e) → Joining found (e ∷ rest) → Joining more rest
+  joining-more found more e rest is before f =
+      let member = ap (λ (s : FlowSet). has s f) is ∙ has-joined found (row table e) f in (
+        ⊎_elim
+            (λ h. ⊎_elim (λ old. (before f).0 (inl old)) (λ new. (before f).0 (inr (e, inl refl, new))) (or_cases _ _ (sym member ∙ h)))
+            (λ p. (before f).0 (inr (p.0, inr p.1, p.2))),
+        λ l.
+            ⊎_elim
+            (λ old. inl (member ∙ or_left _ _ old))
+            (λ p. ⊎_elim (λ same. inl (member ∙ or_right _ _ (subst (λ (k : ℕ). has (row table k) f ≡ true) (sym same) p.2))) (λ later. inr (p.0, later, p.2)) p.1)
+            ((before f).1 l),
+      )
+
+  pub joining-all : (found : FlowSet) (rest : List ℕ) → rest ≡ [] → Joining found rest → (f : ℕ) → Decides (has found f) (LeadsTo table ends 64 f)
+  joining-all found rest none before f = (
+    λ h. (before f).0 (inl h),
+    λ l. ⊎_elim (λ h. h) (λ p. absurd (subst (λ (xs : List ℕ). Holds xs p.0) none p.1)) ((before f).1 l),
   )
 
 -- ---- who holds the gateway back

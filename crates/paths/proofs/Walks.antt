@@ -35,3 +35,11 @@ module _ (flows : List Flow) (g : ℕ) where
   -- who reaches a flow is a flow
   pub reaching-flow : (f e : ℕ) → Reaches flows g f e → IsFlow flows f
   reaching-flow f e r = starts (walked r.1 r.2)
+
+  ends : {f e : ℕ} → Walk f e → IsFlow flows e
+  ends (stop i) = i
+  ends (go i a l w) = ends w
+
+  -- and what is reached is one
+  pub reached-flow : (f e : ℕ) → Reaches flows g f e → IsFlow flows e
+  reached-flow f e r = ends (walked r.1 r.2)

@@ -1,5 +1,5 @@
 -- How far a flow is from another along paths that avoid a gateway, by sets of flows. It is a step of the proof of `why`, whose promise does not cite it.
-use Rattle.std.specs.Prelude.{◌≡◌, ℕ, zero, suc, ◌<◌, ◌≤◌, Bool, true, false, not, List, length}
+use Rattle.std.specs.Prelude.{◌≡◌, ℕ, zero, suc, ◌<◌, Bool, true, false, not, List, length}
 use Rattle.process.specs.declared.flow.Flow.{Flow}
 use Rattle.process.specs.declared.sets.FlowSet.{FlowSet}
 use Rattle.process.specs.Sets.{has, just, joined, shared, is_none}
@@ -19,9 +19,9 @@ unfoldable pub level : List Flow → ℕ → ℕ → ℕ → FlowSet
 level flows g f zero = just f
 level flows g f (suc k) = let s : FlowSet = level flows g f k in grown flows g s
 
--- The sets up to the place `last` are the levels around f, and the last is the first that has e.
-pub record LevelsTo (flows : List Flow) (g f e : ℕ) (sets : List FlowSet) (last : ℕ) : Type 0 where
-  pub few : last < 64
-  pub each : (k : ℕ) → k ≤ last → at_place sets k ≡ level flows g f k
-  pub found : has (level flows g f last) e ≡ true
-  pub first : (k : ℕ) → k < last → has (level flows g f k) e ≡ false
+-- The sets are the levels around f, from the first to the one before the first that has e.
+pub record LevelsBelow (flows : List Flow) (g f e : ℕ) (sets : List FlowSet) : Type 0 where
+  pub few : length sets < 64
+  pub each : (k : ℕ) → k < length sets → at_place sets k ≡ level flows g f k
+  pub found : has (level flows g f (length sets)) e ≡ true
+  pub first : (k : ℕ) → k < length sets → has (level flows g f k) e ≡ false

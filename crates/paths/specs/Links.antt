@@ -1,5 +1,6 @@
 -- Which flows enter and leave a node, and which may come right before a flow, as sets.
-use Rattle.std.specs.Prelude.{◌≡◌, ℕ, zero, suc, Bool, cond, List, length, ◌==◌, ◌≢◌, nat_eq}
+use Rattle.std.specs.Prelude.{◌≡◌, ℕ, zero, suc, ◌+◌, ◌<◌, Bool, cond, List, length, ◌==◌, ◌≢◌, nat_eq, slice_index_or}
+use Rattle.std.specs.Borrow.{Bor}
 use Rattle.process.specs.declared.flow.Flow.{Flow}
 use Rattle.process.specs.declared.sets.FlowSet.{FlowSet}
 use Rattle.process.specs.Sets.{no_flows, just, joined}
@@ -9,6 +10,10 @@ use Rattle.paths.specs.Paths.{source, target, IsFlow}
 unfoldable pub chosen : (ℕ → Bool) → ℕ → FlowSet
 chosen p zero = no_flows
 chosen p (suc n) = let s : FlowSet = chosen p n in cond (p (suc n)) (joined s (just (suc n))) s
+
+-- Where `answers` says what a test may answer of an item and its number, it answers p of the numbers of these items.
+abbrev pub TestIs : {X : Type 0} → (Bor X → ℕ → Bool → Type 0) → List X → (ℕ → Bool) → Type 0
+TestIs answers xs p = (i : ℕ) (x : _) (b : Bool) → i < length xs → x.now ≡ slice_index_or xs i x.now → answers x (i + 1) b → b ≡ p (i + 1)
 
 -- the flows that enter the node g, and those that leave it
 unfoldable pub entering : List Flow → ℕ → FlowSet

@@ -1,6 +1,7 @@
 //! The path rule of inclusive gateways: which flows hold a gateway back, and why.
 #![tactic(auto)]
 
+mod avoiding;
 mod levels;
 mod links;
 mod reach;

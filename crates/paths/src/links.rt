@@ -1,59 +1,39 @@
-//! Which flows enter and leave a node, and which may come right before a flow.
-ghost use Rattle.std.specs.Prelude.{◌≡◌, ◌≤◌, length};
-ghost use Rattle.paths.specs.Paths.{source, target};
-ghost use Rattle.paths.specs.Links.{entering, leaving, leaders};
+//! Which numbers pass a test, and so which flows enter and leave a node.
+ghost use Rattle.std.specs.Prelude.{◌≡◌, ℕ, ◌≤◌, Bool, length};
+ghost use Rattle.model.specs.Models.{flows_of};
+ghost use Rattle.paths.specs.Links.{chosen, TestIs, entering, leaving};
 
-use process::flow::Flow;
+use model::model::Model;
 use process::sets::FlowSet;
 
-/// The flows that enter the node.
-pub(crate) fn entering(flows: &[Flow], node: u8) -> FlowSet
-    requires { length flows.now ≤ 64 }
-    ensures { result ≡ entering flows.now node }
+/// The numbers of the items that pass the test, which is given an item and its number.
+pub(crate) fn chosen<T, F: Fn(&T, u8) -> bool>(items: &[T], test: F) -> FlowSet
+    requires few { length items.now ≤ 64 }
+    requires callable { F.IsAlwaysCallable test }
+    ensures { (p : ℕ → Bool) → TestIs (F.post test) items.now p → result ≡ chosen p (length items.now) }
 {
     let mut found = FlowSet::empty();
-    for place in 0..flows.len() {
-        if flows[place].to == node {
-            found = found.insert(place as u8 + 1);
+    // No zip with the numbers 1..: with it the tables took nearly twice the instructions that docs/path-rule.md tells.
+    for (place, item) in items.iter().enumerate() {
+        // a place of at most 64: the cast is proved to lose nothing
+        let number = place as u8 + 1;
+        if test(item, number) {
+            found = found.insert(number);
         }
     }
     found
+}
+
+/// The flows that enter the node.
+pub(crate) fn entering(model: &Model, node: u8) -> FlowSet
+    ensures { result ≡ entering (flows_of model.now) node }
+{
+    chosen(model.flows(), |flow, _| flow.to == node)
 }
 
 /// The flows that leave the node.
-pub(crate) fn leaving(flows: &[Flow], node: u8) -> FlowSet
-    requires { length flows.now ≤ 64 }
-    ensures { result ≡ leaving flows.now node }
+pub(crate) fn leaving(model: &Model, node: u8) -> FlowSet
+    ensures { result ≡ leaving (flows_of model.now) node }
 {
-    let mut found = FlowSet::empty();
-    for place in 0..flows.len() {
-        if flows[place].from == node {
-            found = found.insert(place as u8 + 1);
-        }
-    }
-    found
-}
-
-/// The node that the flow leaves, or 0 where there is no such flow.
-pub(crate) fn source(flows: &[Flow], flow: u8) -> u8
-    ensures { result ≡ source flows.now flow }
-{
-    let number = usize::from(flow);
-    if number == 0 || number > flows.len() {
-        return 0;
-    }
-    flows[number - 1].from
-}
-
-/// The flows that may come right before the flow on a path that avoids the gateway. Each of them enters the node
-/// that the flow leaves; where that is the gateway there is none.
-pub(crate) fn leaders(flows: &[Flow], gateway: u8, flow: u8) -> FlowSet
-    requires { length flows.now ≤ 64 }
-    ensures { result ≡ leaders flows.now gateway flow }
-{
-    let node = source(flows, flow);
-    if node == gateway {
-        return FlowSet::empty();
-    }
-    entering(flows, node)
+    chosen(model.flows(), |flow, _| flow.from == node)
 }

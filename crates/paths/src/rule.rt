@@ -7,6 +7,9 @@ ghost use Rattle.paths.specs.Routings.{flows_of};
 use crate::routing::Routing;
 use process::sets::FlowSet;
 
+// Routing, tokens and gateway are three arguments and no struct: these are public calls, and a marking above
+// keeps the first two together, and asks of one gateway after the other.
+
 /// The flows that hold the gateway back: those with a token from which a path leads to an empty inbound flow
 /// of the gateway, and none to an inbound flow with a token.
 pub fn holders(routing: &Routing, tokens: FlowSet, gateway: u8) -> FlowSet

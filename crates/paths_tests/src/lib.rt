@@ -2,7 +2,7 @@
 #![tactic(auto)]
 
 use model::model::Model;
-use paths::reason::why;
+use paths::reason::{Reason, why};
 use paths::routing::Routing;
 use paths::rule::{holding_number, path_rule};
 use process::draft::Draft;
@@ -39,43 +39,33 @@ fn routing_of(text: &[u8]) -> Routing {
     Routing::of(place)
 }
 
-// Whether the reason is the one that the path tells, and the list behind it is untouched.
+// Whether the reason is the one that the path tells, the list begins with the path, and is untouched behind it.
 fn same_reason(routing: &Routing, case: Case<'_>) -> bool {
     let mut list = [255; 64];
-    let length = match why(routing, FlowSet::of(case.tokens), case.gateway, &mut list) {
-        None => 0,
-        Some(reason) => {
-            if case.path.first() != Some(&reason.holder) || case.path.last() != Some(&reason.end) {
-                return false;
-            }
-            reason.length
-        }
+    let told = why(routing, FlowSet::of(case.tokens), case.gateway, &mut list);
+    let ends = case.path.first().zip(case.path.last());
+    let expected = ends.map(|(holder, end)| Reason {
+        holder: *holder,
+        end: *end,
+        length: case.path.len(),
+    });
+    let Some((front, rest)) = list.split_at_checked(case.path.len()) else {
+        return false;
     };
-    for (i, flow) in list.iter().enumerate() {
-        let expected = if i < length && i < case.path.len() {
-            case.path[i]
-        } else {
-            255
-        };
-        if *flow != expected {
-            return false;
-        }
-    }
-    length == case.path.len()
+    told == expected && front == case.path && rest.iter().all(|flow| *flow == 255)
 }
 
-/// The first case, from 1, of which the calls say something else, or 0.
-fn first_wrong(routing: &Routing, cases: &[Case<'_>]) -> usize {
-    for (i, case) in cases.iter().enumerate() {
-        let tokens = FlowSet::of(case.tokens);
-        if path_rule(routing, tokens, case.gateway) != case.rule
-            || holding_number(routing, tokens, case.gateway) != case.holding
-            || !same_reason(routing, *case)
-        {
-            return i + 1;
-        }
-    }
-    0
+// Whether the calls say of the case what it tells.
+fn agrees(routing: &Routing, case: Case<'_>) -> bool {
+    let tokens = FlowSet::of(case.tokens);
+    path_rule(routing, tokens, case.gateway) == case.rule
+        && holding_number(routing, tokens, case.gateway) == case.holding
+        && same_reason(routing, case)
+}
+
+/// The place of the first case of which the calls say something else.
+fn first_wrong(routing: &Routing, cases: &[Case<'_>]) -> Option<usize> {
+    cases.iter().position(|case| !agrees(routing, *case))
 }
 
 /// A chain of 40 nodes by 39 flows, where 25 flows more lead beside those from node 2 to node 27.
@@ -94,16 +84,12 @@ fn long_chain() -> Routing {
     for n in 2..27 {
         let _ = draft.add_flow(0, n + 38, n, n + 1, Guard::Plain);
     }
-    match Model::check(draft) {
-        Ok(model) => Routing::of(model),
-        Err(_) => Routing::of(Model::new()),
-    }
+    Routing::of(Model::check(draft).unwrap_or_else(|_| Model::new()))
 }
 
 #[cfg(test)]
 mod tests {
     use super::*;
-    use paths::reason::Reason;
 
     #[test]
     fn the_branches_of_process_7(rt: HostRuntime) {
@@ -148,7 +134,7 @@ mod tests {
                     },
                 ],
             ),
-            0
+            None
         );
     }
 
@@ -205,7 +191,7 @@ mod tests {
                     },
                 ],
             ),
-            0);
+            None);
     }
 
     #[test]
@@ -238,7 +224,7 @@ mod tests {
                     },
                 ],
             ),
-            0);
+            None);
     }
 
     #[test]

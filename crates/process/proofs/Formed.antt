@@ -1,8 +1,10 @@
 -- A well formed process stays so with one node or flow more.
-use Rattle.std.proofs.Common.{◌≡◌, ℕ, ◌<◌, ◌≤◌, Bool, true, cond, ◌&&◌, ltb, leb, List, [], ◌∷◌, ◌++◌, length, refl, ◌∙◌, arith, length-append}
-use Rattle.std.proofs.lemmas.Bool.{leb-true, le-leb, lt-ltb, and_parts, and_from, cond-true}
+use Rattle.std.proofs.Common.{◌≡◌, ℕ, ◌+◌, ◌<◌, ◌≤◌, Bool, true, false, cond, not, ◌&&◌, eqb, ltb, leb, Ok, Err, List, [], ◌∷◌, ◌++◌, length, refl, ◌∙◌, arith, length-append}
+use Rattle.std.proofs.lemmas.Bool.{leb-true, leb-false, le-leb, lt-ltb, and_parts, and_from, cond-true}
+use Rattle.fault.specs.declared.line.LineFault.TheVariants.{Sequence, TooMany}
 use Rattle.process.specs.declared.flow.Flow.{Flow}
 use Rattle.process.specs.declared.node.Kind.{Kind}
+use Rattle.process.specs.Drafts.{next_check}
 use Rattle.process.specs.Processes.{is_node, kind_in_range, guard_in_range, flow_formed, kinds_in_range, flows_formed, well_formed}
 
 kinds-push : (ks : List Kind) (k : Kind) → kinds_in_range ks ≡ true → kind_in_range k ≡ true → kinds_in_range (ks ++ k ∷ []) ≡ true
@@ -44,3 +46,11 @@ module _ (number : ℕ) (nodes : List Kind) (flows : List Flow) (h : well_formed
 -- a push that finds room puts the item behind the others
 pub pushed : {X : Type 0} (xs ys : List X) (x : X) (n : ℕ) (r : Bool) → r ≡ ltb (length xs) n → length xs < n → ys ≡ cond r (xs ++ x ∷ []) xs → ys ≡ xs ++ x ∷ []
 pushed xs ys x n r told room after = after ∙ cond-true r (xs ++ x ∷ []) xs (told ∙ lt-ltb (length xs) n room)
+
+-- an item that may come next finds room
+pub next-room : (most count line n : ℕ) (u : Unit {0}) → Ok u ≡ next_check most count line n → count < most
+next-room most count line n u e = by (leb most count) refl e
+  where
+    by : (b : Bool) → leb most count ≡ b → Ok u ≡ cond b (Err (TooMany line)) (cond (not (eqb n (count + 1))) (Err (Sequence line)) (Ok tt)) → count < most
+    by true t r = absurd cc
+    by false t r = leb-false most count t

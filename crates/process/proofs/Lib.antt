@@ -1,4 +1,6 @@
 pub mod Bounds
+pub mod ByNumber
+pub mod Filled
 pub mod Formed
 pub mod Gaps
 pub mod Membership

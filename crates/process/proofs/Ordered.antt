@@ -1,7 +1,10 @@
 -- The flows of a set in order.
-use Rattle.std.proofs.Common.{◌≡◌, ℕ, zero, suc, ◌+◌, ◌-◌, ◌<◌, ◌≤◌, Bool, true, false, cond, List, [], ◌∷◌, length, Some, None, Option, sym, refl, ap, ◌∙◌, subst, ⊎_elim, add-one, arith, MatchOption}
+use Rattle.std.proofs.Common.{◌≡◌, ℕ, zero, suc, ◌+◌, ◌-◌, ◌/◌, ◌%◌, ◌^◌, ◌<◌, ◌≤◌, Bool, true, false, cond, eqb, [], ◌∷◌, length, Some, None, Option, sym, refl, ap, ◌∙◌, subst, ⊎_elim, shr-shr, shr_lt, pow_mono, add-one, arith, MatchOption}
+use native.Mathlib.Nat.{div-eq_of_lt}
+use Rattle.std.specs.Int.{bit_at}
 use Rattle.std.specs.List.{slice_get}
-use Rattle.std.proofs.lemmas.Bool.{cases_Bool, cases_eq, both_ways}
+use Rattle.std.proofs.lemmas.Bool.{cases_Bool, cases_eq, cases_order, cases_lt, both_ways}
+use Rattle.std.proofs.lemmas.Nat.{pow_pos}
 use Rattle.process.specs.declared.sets.FlowSet.{FlowSet}
 use Rattle.process.specs.Sets.{has, is_none, among, above, tally, Next, SetLaws}
 use Rattle.process.proofs.Membership.{has-no_flows, has-just, has-joined, has-shared, has-without, none-in-zero, some_in, same-sets, tally-same, tally-front}
@@ -59,6 +62,68 @@ module _ (s : FlowSet) where
   pub next-none : (n : ℕ) → None ≡ slice_get (above s n) 0 → (m : ℕ) → n < m → m ≤ 64 → has s m ≡ false
   next-none n e = subst (λ (r : Option ℕ). MatchOption r ((m : ℕ) → n < m → m ≤ 64 → has s m ≡ false) (Next s n)) (sym e) (next-found n)
 
+  -- there is only one
+  next-one : (n f : ℕ) → Next s n f → (r : Option ℕ) → MatchOption r ((m : ℕ) → n < m → m ≤ 64 → has s m ≡ false) (Next s n) → Some f ≡ r
+  next-one n f h None q = absurd (both_ways _ (q f h.higher h.range) h.member)
+  next-one n f h (Some e) q = ⊎_elim (λ same. ap Some same) (⊎_elim (λ less. absurd (both_ways _ (q.first f h.higher less) h.member)) (λ more. absurd (both_ways _ (h.first e q.higher more) q.member))) (cases_order f e)
+
+  pub next-is : (n f : ℕ) → Next s n f → Some f ≡ slice_get (above s n) 0
+  next-is n f h = next-one n f h (slice_get (above s n) 0) (next-found n)
+
+  -- the flow that is the next of a set, some numbers on
+  above-next : (d n f : ℕ) → f ≡ d + (n + 1) → Next s n f → above s n ≡ f ∷ above s f
+  above-next zero n f e h =
+      let here : f ≡ n + 1 = omega arith in
+      subst (λ (m : ℕ). above s n ≡ m ∷ above s m) (sym here) (above-here n (omega (arith, h.range)) (ap (has s) (sym here) ∙ h.member))
+  above-next (suc d) n f e h =
+      above-not n (omega (arith, h.range)) (h.first (n + 1) (omega arith) (omega arith))
+      ∙ above-next d (n + 1) f (omega arith) (record { higher = omega arith; range = h.range; member = h.member; first = λ m low high. h.first m (omega arith) high })
+
+  -- the lowest flow above a number stands first among those above it
+  pub above-some : (n f : ℕ) → Some f ≡ slice_get (above s n) 0 → above s n ≡ f ∷ above s f
+  above-some n f e = let h = next-some n f e in above-next (f - (n + 1)) n f (omega (arith, h.higher)) h
+
+  -- ---- the word without its lowest bits
+
+  has-shifted : (n i : ℕ) → has s (n + 1 + i) ≡ eqb (bit_at (s.bits / 2 ^ n) i) 1
+  unfolding has
+  has-shifted n i = let e : n + 1 + i ≡ suc (n + i) = omega arith in ap (has s) e ∙ ap (λ (x : ℕ). eqb (x % 2) 1) (sym (shr-shr s.bits n i))
+
+  -- a flow above n is some bit of the shifted word
+  has-above : (n m : ℕ) → n < m → has s m ≡ eqb (bit_at (s.bits / 2 ^ n) (m - (n + 1))) 1
+  has-above n m h = let e : m ≡ n + 1 + (m - (n + 1)) = omega arith in ap (has s) e ∙ has-shifted n (m - (n + 1))
+
+  -- no bit is left
+  pub shifted-none : (n : ℕ) → s.bits / 2 ^ n ≡ 0 → None ≡ slice_get (above s n) 0
+  shifted-none n e = none-one (slice_get (above s n) 0) (next-found n)
+    where
+      none : (m : ℕ) → n < m → has s m ≡ false
+      none m h = has-above n m h ∙ ap (λ (x : ℕ). eqb (bit_at x (m - (n + 1))) 1) e ∙ ap (λ (x : ℕ). eqb (x % 2) 1) (div-eq_of_lt (pow_pos (m - (n + 1))))
+
+      none-one : (r : Option ℕ) → MatchOption r ((m : ℕ) → n < m → m ≤ 64 → has s m ≡ false) (Next s n) → None ≡ r
+      none-one None q = refl
+      none-one (Some f) q = absurd (both_ways _ (none f q.higher) q.member)
+
+  -- the shifted word
+  pub shifted-fits : (n : ℕ) → n < 64 → s.bits < 2 ^ 64 → s.bits / 2 ^ n < 2 ^ (64 - n)
+  shifted-fits n low fits = let e : 64 ≡ 64 - n + n = omega arith in shr_lt (64 - n) n (subst (λ (k : ℕ). s.bits < 2 ^ k) e fits)
+
+  -- a digit that is set lies below the word's width
+  digit-within : (x z k : ℕ) → x < 2 ^ k → bit_at x z ≡ 1 → z < k
+  digit-within x z k fits here = ⊎_elim (λ h. h) (λ h. let more : 2 ^ k ≤ 2 ^ z = pow_mono h in let small : x < 2 ^ z = omega arith in let none = ap (λ (y : ℕ). y % 2) (div-eq_of_lt small) in absurd (omega (arith, here, none))) (cases_lt z k)
+
+  -- the lowest bit that is left is that of the next flow
+  pub shifted-some : (n z : ℕ) → n < 64 → s.bits < 2 ^ 64 → bit_at (s.bits / 2 ^ n) z ≡ 1 → ((i : ℕ) → i < z → bit_at (s.bits / 2 ^ n) i ≡ 0) → Some (n + 1 + z) ≡ slice_get (above s n) 0
+  shifted-some n z low fits here before =
+      let within = digit-within (s.bits / 2 ^ n) z (64 - n) (shifted-fits n low fits) here in
+      next-is n (n + 1 + z)
+      (record {
+        higher = omega arith;
+        range = omega (arith, within);
+        member = has-shifted n z ∙ ap (λ (x : ℕ). eqb x 1) here;
+        first = λ m h l. has-above n m h ∙ ap (λ (x : ℕ). eqb x 1) (before (m - (n + 1)) (omega arith));
+      })
+
   -- ---- how many there are
 
   among-length : (k n : ℕ) → length (among s (suc n) k) ≡ tally (λ j. has s (j + n)) k
@@ -78,15 +143,23 @@ module _ (s : FlowSet) where
       by true e = omega arith
       by false e = omega arith
 
+  -- a set has at most 64 flows
+  among-few : (k n : ℕ) → length (among s n k) ≤ k
+  unfolding among
+  among-few zero n = omega arith
+  among-few (suc k) n = by (has s n) (among-few k (suc n))
+    where
+      by : (b : Bool) → length (among s (suc n) k) ≤ k → length (cond b (n ∷ among s (suc n) k) (among s (suc n) k)) ≤ suc k
+      by true h = omega arith
+      by false h = omega arith
+
+  pub above-few : length (above s 0) ≤ 64
+  unfolding above
+  above-few = among-few 64 1
+
   pub above-length : length (above s 0) ≡ tally (has s) 64
   unfolding above
   above-length = among-length 64 0 ∙ tally-same _ _ 64 (λ j h l. let e : j + 0 ≡ j = omega arith in ap (has s) e)
-
--- ---- a place further on in the list
-
-pub nth-next : (x : ℕ) (xs : List ℕ) (n : ℕ) → (n ≡ 0 → ⊥) → slice_get (x ∷ xs) n ≡ slice_get xs (n - 1)
-nth-next x xs zero h = absurd (h refl)
-nth-next x xs (suc n) h = let e : n ≡ suc n - 1 = omega arith in ap (λ k. slice_get xs k) e
 
 -- ---- the laws together
 

@@ -1,6 +1,7 @@
 -- What a draft holds.
-use Rattle.std.specs.Prelude.{◌≡◌, ℕ, List, Ok, Err, Result}
+use Rattle.std.specs.Prelude.{◌≡◌, ℕ, ◌+◌, cond, not, List, Ok, Err, Result, ◌==◌, nat_le}
 use Rattle.fault.specs.declared.line.LineFault.{LineFault}
+use Rattle.fault.specs.declared.line.LineFault.TheVariants.{Sequence, TooMany}
 use Rattle.process.specs.declared.draft.Draft.{Draft}
 use Rattle.process.specs.declared.flow.Flow.{Flow}
 use Rattle.process.specs.declared.flow.Guard.{Guard}
@@ -16,6 +17,10 @@ nodes_of d = items d.nodes
 
 abbrev pub flows_of : Draft → List Flow
 flows_of d = items d.flows
+
+-- one more item, with number n, of a list of `count` items that has room for `most`: the one too many comes first, then a number that is not the next
+abbrev pub next_check : ℕ → ℕ → ℕ → ℕ → Result (Unit {0}) LineFault
+next_check most count line n = cond (nat_le most count) (Err (TooMany line)) (cond (not (n == count + 1)) (Err (Sequence line)) (Ok tt))
 
 -- a node was added, or refused and nothing changed
 abbrev pub NodeAdded : Draft → ℕ → ℕ → Kind → Result (Unit {0}) LineFault → Draft → Type 0

@@ -4,6 +4,7 @@
 pub mod draft;
 pub mod flow;
 pub mod node;
+pub mod numbers;
 pub mod ranges;
 pub mod row;
 pub mod sets;

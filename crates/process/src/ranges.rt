@@ -2,6 +2,8 @@
 ghost use Rattle.std.specs.Prelude.{◌≡◌};
 ghost use Rattle.process.specs.Processes.{is_node_number, is_figure, is_value};
 
+// Tests of one shape: each is a rule with a name of its own, and one generic test would only move its numbers to the callers.
+
 /// Whether some process has a node with this number.
 pub fn is_node_number(node: u16) -> bool
     ensures { result ≡ is_node_number node }

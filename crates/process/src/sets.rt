@@ -1,6 +1,8 @@
 //! Sets of sequence flows. Flow n is bit n - 1 of a word, which has a bit for each flow that a process can have.
 ghost use Rattle.std.specs.Prelude.{◌≡◌};
+ghost use Rattle.std.specs.Iterator.{YieldsFirst, item_count};
 ghost use Rattle.std.specs.List.{slice_get};
+ghost use Rattle.process.specs.Left.{left};
 ghost use Rattle.process.specs.Sets.{in_range, has, no_flows, just, joined, shared, without, these, is_none, above, tally, SetLaws};
 
 /// A set of flows, by their numbers.
@@ -18,6 +20,7 @@ fn in_range(flow: u8) -> bool
 
 impl FlowSet {
     /// The set without a flow.
+    #[tactic(auto, unfolding(crate::specs::Sets::no_flows))]
     pub fn empty() -> FlowSet
         ensures { result ≡ no_flows }
     {
@@ -58,6 +61,7 @@ impl FlowSet {
     }
 
     /// The flows of either set.
+    #[tactic(auto, unfolding(crate::specs::Sets::joined))]
     pub fn union(self, other: FlowSet) -> FlowSet
         ensures { result ≡ joined self other }
     {
@@ -67,6 +71,7 @@ impl FlowSet {
     }
 
     /// The flows of both sets.
+    #[tactic(auto, unfolding(crate::specs::Sets::shared))]
     pub fn intersection(self, other: FlowSet) -> FlowSet
         ensures { result ≡ shared self other }
     {
@@ -76,6 +81,7 @@ impl FlowSet {
     }
 
     /// The flows of this set that the other does not have.
+    #[tactic(auto, unfolding(crate::specs::Sets::without))]
     pub fn difference(self, other: FlowSet) -> FlowSet
         ensures { result ≡ without self other }
     {
@@ -99,6 +105,7 @@ impl FlowSet {
     }
 
     /// Whether the set has no flow.
+    #[tactic(auto, unfolding(crate::specs::Sets::is_none))]
     pub fn is_empty(self) -> bool
         ensures { result ≡ is_none self }
     {
@@ -116,14 +123,15 @@ impl FlowSet {
     pub fn next_after(self, number: u8) -> Option<u8>
         ensures { result ≡ slice_get (above self number) 0 }
     {
-        let mut flow = number;
-        while flow < 64 {
-            flow += 1;
-            if self.contains(flow) {
-                return Some(flow);
-            }
+        if number >= 64 {
+            return None;
         }
-        None
+        let higher = self.bits >> number;
+        if higher == 0 {
+            return None;
+        }
+        // at most 63: the cast is proved to lose nothing
+        Some(number + 1 + higher.trailing_zeros() as u8)
     }
 
     /// The lowest flow of the set.
@@ -133,21 +141,39 @@ impl FlowSet {
         self.next_after(0)
     }
 
+    /// The flows of the set, lowest first.
+    pub fn iter(self) -> Flows
+        ensures { left result ≡ above self 0 }
+    {
+        Flows { set: self, last: 0 }
+    }
+
     /// The flow of the set that has this many lower ones.
     pub fn nth(self, index: usize) -> Option<u8>
         ensures { result ≡ slice_get (above self 0) index }
     {
-        let mut left = index;
-        for below in 0..64 {
-            let flow = below + 1;
-            if self.contains(flow) {
-                if left == 0 {
-                    return Some(flow);
-                }
-                left -= 1;
-            }
-        }
-        None
+        self.iter().nth(index)
+    }
+}
+
+/// The flows of a set above the last one that came, lowest first.
+#[derive(Clone, Copy)]
+pub struct Flows {
+    set: FlowSet,
+    last: u8,
+}
+
+impl Iterator for Flows {
+    type Item = u8;
+
+    ghost next_gives = { YieldsFirst left };
+
+    ghost remaining = { item_count left };
+
+    fn next(&mut self) -> Option<u8> {
+        let flow = self.set.next_after(self.last)?;
+        self.last = flow;
+        Some(flow)
     }
 }
 

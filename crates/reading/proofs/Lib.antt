@@ -14,3 +14,4 @@ pub mod Rereads
 pub mod Room
 pub mod Stands
 pub mod Steps
+pub mod Turns

@@ -12,7 +12,9 @@ use Rattle.process.specs.declared.node.Kind.TheVariants as kinds
 use Rattle.text.specs.declared.words.Keyword.{Keyword}
 use Rattle.text.specs.declared.words.Keyword.TheVariants as keywords
 use Rattle.text.specs.Numbers.{numeral}
-use Rattle.text.specs.Words.{Token, keyword, number, figure, operator, words_left, none_left, next_word}
+use Rattle.text.specs.declared.words.Rest.{Rest}
+use Rattle.text.specs.declared.words.Word.{Word}
+use Rattle.text.specs.Words.{Token, line as line_of, plain, keyword, number, figure, operator, words_left, none_left, next_word}
 use Rattle.reading.specs.declared.fields.Field.{Field}
 
 -- one step after another: the first fault counts
@@ -38,13 +40,21 @@ abbrev pub SameLine : {X : Type 0} → ℕ → Result (Field X) LineFault → Ty
 SameLine line (Ok f) = f.rest.line ≡ line
 SameLine line (Err e) = Unit {0}
 
+-- the code has what is read there, and what is left of the same line
+abbrev pub IsField : {X : Type 0} → (ℕ → Words → Parsed X) → Rest → Result (Field X) LineFault → Type 0
+IsField reads rest r = (parsed r ≡ reads rest.line (words_left rest)) × SameLine rest.line r
+
+-- the number from low to high that the word writes
+abbrev pub ranged : ℕ → ℤ → ℤ → List ℕ → Result ℤ LineFault
+ranged line low high w = ok_or (numeral low high w) (Number line)
+
 -- the number from 1 to high that the word writes
 abbrev pub counted : ℕ → ℕ → List ℕ → Result ℕ LineFault
 counted line high w = ok_or (option_map unsigned_abs (numeral (pos 1) (pos high) w)) (Number line)
 
 -- the value of a figure that the word writes
 abbrev pub valued : ℕ → List ℕ → Result ℤ LineFault
-valued line w = ok_or (numeral (negsuc 999999999) (pos 1000000000) w) (Number line)
+valued line w = ranged line (negsuc 999999999) (pos 1000000000) w
 
 -- a number from 1 to high
 abbrev pub as_counted : ℕ → ℕ → Token → Words → Parsed ℕ
@@ -76,6 +86,20 @@ as_operator line (operator o) ts = Ok (Ok o, ts)
 -- the next word, read as one of these
 abbrev pub field : {X : Type 0} → (ℕ → Token → Words → Parsed X) → ℕ → Words → Parsed X
 field reads line ts = elim (next_word ts) [ None ↦ Err (Form line) | Some p ↦ reads line p.0 p.1 ]
+
+-- what a reader makes of a word, as a field
+abbrev pub taken : {X : Type 0} → ℕ → Option (Result X LineFault) → Words → Parsed X
+taken line None ts = Err (Form line)
+taken line (Some value) ts = Ok (value, ts)
+
+-- the next word is what a reader took, or left as none of its kind, and what is left is of the same line
+abbrev pub FieldRead : {X : Type 0} → (Word → Option (Result X LineFault) → Type 0) → Rest → Result (Field X) LineFault → Type 0
+FieldRead {X} reads rest field =
+    (elim (next_word (words_left rest)) [
+      | None ↦ parsed field ≡ Err (Form rest.line)
+      | Some n ↦ (w : Word) × (r : Option (Result X LineFault)) × (plain w ≡ n.0) × (line_of w ≡ rest.line) × reads w r × (parsed field ≡ taken rest.line r n.1)
+    ])
+    × SameLine rest.line field
 
 abbrev pub counted_field : ℕ → ℕ → Words → Parsed ℕ
 counted_field high line ts = field (as_counted high) line ts

@@ -1,5 +1,6 @@
 -- What reading does to a draft.
-use Rattle.std.specs.Prelude.{◌≡◌, ℕ, ◌⊎◌, List, Ok, Err, Result}
+use Rattle.std.specs.Prelude.{◌≡◌, ℕ, ◌-◌, ◌⊎◌, List, length, take, Ok, Err, Result}
+use Rattle.std.specs.Borrow.{Bor}
 use Rattle.fault.specs.declared.line.LineFault.{LineFault}
 use Rattle.fault.specs.declared.model.ModelFault.{ModelFault}
 use Rattle.fault.specs.declared.model.ModelFault.TheVariants.{Line}
@@ -8,8 +9,9 @@ use Rattle.model.specs.Models.{draft_of}
 use Rattle.model.specs.Sound.{Sound, Unsound}
 use Rattle.process.specs.declared.draft.Draft.{Draft}
 use Rattle.process.specs.Drafts.{number_of, nodes_of, flows_of}
+use Rattle.text.specs.Texts.{text_check}
 use Rattle.reading.specs.Fields.{Words}
-use Rattle.reading.specs.Lines.{Process, Sofar, node_line, flow_line, later_line, later_lines, process_read}
+use Rattle.reading.specs.Lines.{Process, Sofar, node_line, flow_line, later_line, later_lines, in_line, process_read}
 use Rattle.reading.specs.Writings.{Describes, DescribesNothing}
 
 -- the process that a draft holds
@@ -38,6 +40,11 @@ LineRead d line ts (Err fault) d' = (later_line line (sofar d) ts ≡ Err fault)
 abbrev pub LinesRead : Draft → List (List ℕ) → Result (Unit {0}) LineFault → Draft → Type 0
 LinesRead d lines (Ok u) d' = (later_lines 2 (sofar d) lines ≡ Ok (sofar d')) × (number_of d' ≡ number_of d)
 LinesRead d lines (Err fault) d' = later_lines 2 (sofar d) lines ≡ Err fault
+
+-- the bytes are a text, and these are its lines without the last line feed
+abbrev pub BodyRead : List ℕ → Result (Bor (List ℕ)) LineFault → Type 0
+BodyRead text (Ok lines) = (text_check text ≡ Ok tt) × (lines.now ≡ take (length text - 1) text)
+BodyRead text (Err fault) = in_line (text_check text) ≡ Err fault
 
 -- the process that the text describes, or its fault
 abbrev pub DraftRead : List ℕ → Result Draft LineFault → Type 0

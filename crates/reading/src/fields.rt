@@ -1,7 +1,6 @@
 //! What stands at one place of a line, word by word.
-ghost use Rattle.std.specs.Prelude.{◌≡◌, drop};
-ghost use Rattle.text.specs.Words.{words_left};
-ghost use Rattle.reading.specs.Fields.{parsed, SameLine, counted, valued, counted_field, number_field, figure_field, field, as_operator, as_value, as_kind, guard_field, task_kind, condition, condition_value};
+ghost use Rattle.std.specs.Prelude.{◌≡◌, ◌≤ℤ◌, drop, IfOk};
+ghost use Rattle.reading.specs.Fields.{FieldRead, IsField, ranged, counted, counted_field, number_field, figure_field, field, as_operator, as_value, as_kind, guard_field, task_kind, condition, condition_value};
 
 use fault::line::LineFault;
 use process::flow::{Condition, Guard, Operator};
@@ -17,14 +16,20 @@ pub(crate) struct Field<'a, T> {
     pub(crate) rest: Rest<'a>,
 }
 
+// The number from `low` to `high` that the part of the text writes.
+fn ranged(part: Part<'_>, low: i32, high: i32) -> Result<i32, LineFault>
+    ensures value { result ≡ ranged part.entry.line low high part.entry.bytes.now }
+    ensures within { IfOk result (λ v. (low ≤ℤ v) × (v ≤ℤ high)) }
+{
+    number(part.bytes, low, high).ok_or(LineFault::Number { line: part.line })
+}
+
 // The number from 1 to `high` that the part of the text writes.
 fn counted(part: Part<'_>, high: u16) -> Result<u16, LineFault>
     ensures { result ≡ counted part.entry.line high part.entry.bytes.now }
 {
-    match number(part.bytes, 1, i32::from(high)) {
-        Some(value) => Ok(value as u16),
-        None => Err(LineFault::Number { line: part.line }),
-    }
+    // from 1 to `high`: the cast is proved to lose nothing
+    ranged(part, 1, i32::from(high)).map(|value| value as u16)
 }
 
 // What follows the first byte.
@@ -41,114 +46,96 @@ fn after_first(bytes: &[u8]) -> &[u8]
 fn figure(part: Part<'_>) -> Result<u8, LineFault>
     ensures { result ≡ counted part.entry.line 16 (drop 1 part.entry.bytes.now) }
 {
-    match number(after_first(part.bytes), 1, 16) {
-        Some(value) => Ok(value as u8),
-        None => Err(LineFault::Number { line: part.line }),
-    }
+    let digits = Part {
+        bytes: after_first(part.bytes),
+        ..part
+    };
+    // from 1 to 16: the cast is proved to lose nothing
+    ranged(digits, 1, 16).map(|value| value as u8)
 }
 
-// The value of a figure that the part of the text writes.
-fn valued(part: Part<'_>) -> Result<i32, LineFault>
-    ensures { result ≡ valued part.entry.line part.entry.bytes.now }
+// The next word, where `read` takes a word of its kind.
+fn field_by<'a, T: Drop, F: FnOnce(Word<'a>) -> Option<Result<T, LineFault>>>(
+    rest: Rest<'a>,
+    read: F,
+) -> Result<Field<'a, T>, LineFault>
+    requires { F.IsAlwaysCallable read }
+    ensures { FieldRead (F.post read) rest.entry result }
 {
-    match number(part.bytes, -1_000_000_000, 1_000_000_000) {
-        Some(value) => Ok(value),
-        None => Err(LineFault::Number { line: part.line }),
-    }
+    let form = LineFault::Form { line: rest.line };
+    let (word, rest) = rest.next().ok_or(form)?;
+    let value = read(word).ok_or(form)?;
+    Ok(Field { value, rest })
 }
 
 // A number from 1 to `high`.
 fn counted_field<'a>(rest: Rest<'a>, high: u16) -> Result<Field<'a, u16>, LineFault>
-    ensures words { parsed result ≡ counted_field high rest.entry.line (words_left rest.entry) }
-    ensures line { SameLine rest.entry.line result }
+    ensures { IsField (counted_field high) rest.entry result }
 {
-    match rest.next() {
-        Some((Word::Number(part), rest)) => Ok(Field {
-            value: counted(part, high),
-            rest,
-        }),
-        _ => Err(LineFault::Form { line: rest.line }),
-    }
+    field_by(rest, |word| match word {
+        Word::Number(part) => Some(counted(part, high)),
+        _ => None,
+    })
 }
 
 /// The number of a process, a node or a flow.
 pub(crate) fn number_field<'a>(rest: Rest<'a>) -> Result<Field<'a, u16>, LineFault>
-    ensures words { parsed result ≡ number_field rest.entry.line (words_left rest.entry) }
-    ensures line { SameLine rest.entry.line result }
+    ensures { IsField number_field rest.entry result }
 {
     counted_field(rest, 65_535)
 }
 
 /// The number of a node that some process has.
 pub(crate) fn node_field<'a>(rest: Rest<'a>) -> Result<Field<'a, u16>, LineFault>
-    ensures words { parsed result ≡ counted_field 40 rest.entry.line (words_left rest.entry) }
-    ensures line { SameLine rest.entry.line result }
+    ensures { IsField (counted_field 40) rest.entry result }
 {
     counted_field(rest, 40)
 }
 
 // The number of a figure, after its `v`.
 fn figure_field<'a>(rest: Rest<'a>) -> Result<Field<'a, u8>, LineFault>
-    ensures words { parsed result ≡ figure_field rest.entry.line (words_left rest.entry) }
-    ensures line { SameLine rest.entry.line result }
+    ensures { IsField figure_field rest.entry result }
 {
-    match rest.next() {
-        Some((Word::Figure(part), rest)) => Ok(Field {
-            value: figure(part),
-            rest,
-        }),
-        _ => Err(LineFault::Form { line: rest.line }),
-    }
+    field_by(rest, |word| match word {
+        Word::Figure(part) => Some(figure(part)),
+        _ => None,
+    })
 }
 
 // The operator between a figure and a value.
 fn operator_field<'a>(rest: Rest<'a>) -> Result<Field<'a, Operator>, LineFault>
-    ensures words { parsed result ≡ field as_operator rest.entry.line (words_left rest.entry) }
-    ensures line { SameLine rest.entry.line result }
+    ensures { IsField (field as_operator) rest.entry result }
 {
-    match rest.next() {
-        Some((Word::Operator(operator, _), rest)) => Ok(Field {
-            value: Ok(operator),
-            rest,
-        }),
-        _ => Err(LineFault::Form { line: rest.line }),
-    }
+    field_by(rest, |word| match word {
+        Word::Operator(operator, _) => Some(Ok(operator)),
+        _ => None,
+    })
 }
 
 /// The value of a figure.
 pub(crate) fn value_field<'a>(rest: Rest<'a>) -> Result<Field<'a, i32>, LineFault>
-    ensures words { parsed result ≡ field as_value rest.entry.line (words_left rest.entry) }
-    ensures line { SameLine rest.entry.line result }
+    ensures { IsField (field as_value) rest.entry result }
 {
-    match rest.next() {
-        Some((Word::Number(part), rest)) => Ok(Field {
-            value: valued(part),
-            rest,
-        }),
-        _ => Err(LineFault::Form { line: rest.line }),
-    }
+    field_by(rest, |word| match word {
+        Word::Number(part) => Some(ranged(part, -1_000_000_000, 1_000_000_000)),
+        _ => None,
+    })
 }
 
 // The kind of a task: the figure that its answer sets follows.
 fn task_kind<'a>(rest: Rest<'a>) -> Result<Field<'a, Kind>, LineFault>
-    ensures words { parsed result ≡ task_kind rest.entry.line (words_left rest.entry) }
-    ensures line { SameLine rest.entry.line result }
+    ensures { IsField task_kind rest.entry result }
 {
     let figure = figure_field(rest)?;
-    let value = match figure.value {
-        Ok(figure) => Ok(Kind::Task { figure }),
-        Err(fault) => Err(fault),
-    };
     Ok(Field {
-        value,
+        value: figure.value.map(|figure| Kind::Task { figure }),
         rest: figure.rest,
     })
 }
 
 /// The kind of a node.
 pub(crate) fn kind_field<'a>(rest: Rest<'a>) -> Result<Field<'a, Kind>, LineFault>
-    ensures words { parsed result ≡ field as_kind rest.entry.line (words_left rest.entry) }
-    ensures line { SameLine rest.entry.line result }
+    ensures { IsField (field as_kind) rest.entry result }
 {
     let Some((Word::Keyword(keyword, _), after)) = rest.next() else {
         return Err(LineFault::Form { line: rest.line });
@@ -186,8 +173,7 @@ fn condition_value(
 
 // The condition that follows an `if`.
 fn condition<'a>(rest: Rest<'a>) -> Result<Field<'a, Guard>, LineFault>
-    ensures words { parsed result ≡ condition rest.entry.line (words_left rest.entry) }
-    ensures line { SameLine rest.entry.line result }
+    ensures { IsField condition rest.entry result }
 {
     let figure = figure_field(rest)?;
     let operator = operator_field(figure.rest)?;
@@ -200,8 +186,7 @@ fn condition<'a>(rest: Rest<'a>) -> Result<Field<'a, Guard>, LineFault>
 
 /// What a flow says of when it is taken.
 pub(crate) fn guard_field<'a>(rest: Rest<'a>) -> Result<Field<'a, Guard>, LineFault>
-    ensures words { parsed result ≡ guard_field rest.entry.line (words_left rest.entry) }
-    ensures line { SameLine rest.entry.line result }
+    ensures { IsField guard_field rest.entry result }
 {
     if rest.is_done() {
         return Ok(Field {

@@ -1,9 +1,9 @@
 //! The lines of a model text, one after another.
-ghost use Rattle.std.specs.Prelude.{◌≡◌, ◌≤◌};
-ghost use Rattle.text.specs.Pieces.{pieces_in, length_left};
+ghost use Rattle.std.specs.Prelude.{◌≡◌, ◌≤◌, length};
+ghost use Rattle.text.specs.Pieces.{pieces};
 ghost use Rattle.text.specs.Words.{words_left};
 ghost use Rattle.reading.specs.Lines.{ended, process_entry, first_line};
-ghost use Rattle.reading.specs.Readings.{NodeRead, FlowRead, LineRead, LinesRead, DraftRead, DraftWritten};
+ghost use Rattle.reading.specs.Readings.{NodeRead, FlowRead, LineRead, LinesRead, BodyRead, DraftRead, DraftWritten};
 
 use crate::fields::{guard_field, kind_field, number_field};
 use fault::line::LineFault;
@@ -11,6 +11,14 @@ use process::draft::Draft;
 use text::check::check_text;
 use text::pieces::cut_at;
 use text::words::{Keyword, Rest, Word};
+
+/// The lines of the text, without the line feed after the last of them. Refused if the bytes are no text.
+pub(crate) fn body(text: &[u8]) -> Result<&[u8], LineFault>
+    ensures { BodyRead text.now result }
+{
+    check_text(text)?;
+    Ok(&text[..text.len() - 1])
+}
 
 /// Refuses a line of which some word is left.
 pub(crate) fn end_of_line(rest: Rest<'_>) -> Result<(), LineFault>
@@ -32,7 +40,8 @@ fn process_entry(rest: Rest<'_>) -> Result<u16, LineFault>
     number.value
 }
 
-// The first line: `process` and its number.
+// The first line: `process` and its number. It matches its keyword itself, as `order_line` does: one function for both
+// would be no plainer, since its contract would have to tell the keywords apart.
 fn first_line(rest: Rest<'_>) -> Result<u16, LineFault>
     ensures { result ≡ first_line rest.entry.line (words_left rest.entry) }
 {
@@ -84,17 +93,12 @@ fn later_line(draft: &mut Draft, rest: Rest<'_>) -> Result<(), LineFault>
 }
 
 // The lines after the first, of which the draft takes each in its turn.
-fn later_lines(draft: &mut Draft, lines: Option<&[u8]>) -> Result<(), LineFault>
-    requires { length_left lines ≤ 16384 }
-    ensures { LinesRead draft.old (pieces_in 10 lines.entry) result draft.new }
+fn later_lines(draft: &mut Draft, lines: &[u8]) -> Result<(), LineFault>
+    requires { length lines.now ≤ 16384 }
+    ensures { LinesRead draft.old (pieces 10 lines.entry.now) result draft.new }
 {
-    let mut left = lines;
-    let mut line = 1;
-    while let Some(bytes) = left {
-        line += 1;
-        let cut = cut_at(bytes, b'\n');
-        later_line(draft, Rest::new(cut.first, line))?;
-        left = cut.rest;
+    for (index, bytes) in lines.split(|byte| *byte == b'\n').enumerate() {
+        later_line(draft, Rest::new(bytes, index + 2))?;
     }
     Ok(())
 }
@@ -103,11 +107,12 @@ fn later_lines(draft: &mut Draft, lines: Option<&[u8]>) -> Result<(), LineFault>
 fn read_lines(text: &[u8]) -> Result<Draft, LineFault>
     ensures { DraftRead text.now result }
 {
-    check_text(text)?;
-    let cut = cut_at(&text[0..text.len() - 1], b'\n');
+    let cut = cut_at(body(text)?, b'\n');
     let number = first_line(Rest::new(cut.first, 1))?;
     let mut draft = Draft::new(1, number)?;
-    later_lines(&mut draft, cut.rest)?;
+    if let Some(lines) = cut.rest {
+        later_lines(&mut draft, lines)?;
+    }
     Ok(draft)
 }
 

@@ -6,11 +6,9 @@ ghost use Rattle.text.specs.Words.{words_left};
 ghost use Rattle.reading.specs.Orders.{order_entry, order_line, OrderLinesRead, OrderRead, OrderWritten};
 
 use crate::fields::{node_field, value_field};
-use crate::lines::end_of_line;
+use crate::lines::{body, end_of_line};
 use fault::line::LineFault;
 use process::row::Row;
-use text::check::check_text;
-use text::pieces::cut_at;
 use text::words::{Keyword, Rest, Word};
 
 /// The most lines of an order text. A line has at least 11 bytes, so no text that is read has more.
@@ -36,7 +34,7 @@ fn order_entry(rest: Rest<'_>) -> Result<OrderLine, LineFault>
     })
 }
 
-// One line.
+// One line. It matches its keyword itself, as `first_line` does.
 fn order_line(rest: Rest<'_>) -> Result<OrderLine, LineFault>
     ensures { result ≡ order_line rest.entry.line (words_left rest.entry) }
 {
@@ -51,14 +49,9 @@ fn order_lines(lines: &mut Row<OrderLine, MOST_LINES>, text: &[u8]) -> Result<()
     requires { 11 * length (items lines.old) + length text.now + 1 ≤ 16384 }
     ensures { OrderLinesRead lines.old (pieces 10 text.now) result lines.new }
 {
-    let mut left = Some(text);
-    let mut line = 0;
-    while let Some(bytes) = left {
-        line += 1;
-        let cut = cut_at(bytes, b'\n');
-        let order = order_line(Rest::new(cut.first, line))?;
+    for (index, bytes) in text.split(|byte| *byte == b'\n').enumerate() {
+        let order = order_line(Rest::new(bytes, index + 1))?;
         lines.push(order);
-        left = cut.rest;
     }
     Ok(())
 }
@@ -67,9 +60,9 @@ fn order_lines(lines: &mut Row<OrderLine, MOST_LINES>, text: &[u8]) -> Result<()
 fn read_lines(text: &[u8]) -> Result<Row<OrderLine, MOST_LINES>, LineFault>
     ensures { OrderRead text.now result }
 {
-    check_text(text)?;
+    let body = body(text)?;
     let mut lines = Row::new(OrderLine { node: 0, value: 0 });
-    order_lines(&mut lines, &text[0..text.len() - 1])?;
+    order_lines(&mut lines, body)?;
     Ok(lines)
 }
 

@@ -9,33 +9,25 @@ mod tests {
     use std::alloc::{AllocError, Global};
     use std::test::Fail;
 
-    // A text, and the number, layer and place of the fault with which it is refused; all 0 where it is accepted.
+    // A text, and the number, layer and place of the fault with which it is refused.
     #[derive(Clone, Copy)]
     struct Case<'a> {
         text: &'a [u8],
-        fault: (u8, u8, usize),
+        fault: Option<(u8, u8, usize)>,
     }
 
-    // The number, layer and place of the fault of a text, or zeros.
-    fn verdict(text: &[u8]) -> (u8, u8, usize) {
+    // The number, layer and place of the fault of a text.
+    fn verdict(text: &[u8]) -> Option<(u8, u8, usize)> {
         let mut place = Model::new();
-        match read_model(&mut place, text) {
-            Ok(()) => (0, 0, 0),
-            Err(fault) => {
-                let record = fault.record();
-                (record.number, record.layer, record.place)
-            }
-        }
+        let record = read_model(&mut place, text).err()?.record();
+        Some((record.number, record.layer, record.place))
     }
 
-    // The first case, from 1, whose text has another verdict, or 0.
-    fn first_wrong(cases: &[Case<'_>]) -> usize {
-        for (i, case) in cases.iter().enumerate() {
-            if verdict(case.text) != case.fault {
-                return i + 1;
-            }
-        }
-        0
+    // The first case whose text has another verdict.
+    fn first_wrong(cases: &[Case<'_>]) -> Option<usize> {
+        cases
+            .iter()
+            .position(|case| verdict(case.text) != case.fault)
     }
 
     #[test]
@@ -44,22 +36,22 @@ mod tests {
             first_wrong(&[
                 Case {
                     text: b"process 7\nnode 1 start\nnode 2 task v1\nnode 3 or\nnode 4 task v2\nnode 5 task v3\nnode 6 or\nnode 7 end\nflow 1 1 2\nflow 2 2 3\nflow 3 3 4 if v1 >= 1\nflow 4 3 5 if v1 >= 2\nflow 5 3 6 default\nflow 6 4 6\nflow 7 5 6\nflow 8 6 7\n",
-                    fault: (0, 0, 0),
+                    fault: None,
                 },
                 Case {
                     text: b"process 8\nnode 1 start\nnode 2 or\nnode 3 xor\nnode 4 end\nflow 1 1 2\nflow 2 2 3\nflow 3 3 4 default\nflow 4 3 2 if v1 > 0\n",
-                    fault: (0, 0, 0),
+                    fault: None,
                 },
                 Case {
                     text: b"process 1\nnode 1 start\nnode 2 end\nflow 1 1 2\n",
-                    fault: (0, 0, 0),
+                    fault: None,
                 },
                 Case {
                     text: b"process 65535\nnode 1 start\nnode 2 or\nnode 3 task v16\nnode 4 task v2\nnode 5 end\nnode 6 end\nflow 1 1 2\nflow 2 2 3 if v16 <> -1000000000\nflow 3 2 4 if v1 = 1000000000\nflow 4 3 5\nflow 5 4 6\n",
-                    fault: (0, 0, 0),
+                    fault: None,
                 },
             ]),
-            0
+            None
         );
     }
 
@@ -69,22 +61,22 @@ mod tests {
             first_wrong(&[
                 Case {
                     text: b"",
-                    fault: (11, 1, 0),
+                    fault: Some((11, 1, 0)),
                 },
                 Case {
                     text: b"process 7\nnode 1 Start\n",
-                    fault: (12, 1, 17),
+                    fault: Some((12, 1, 17)),
                 },
                 Case {
                     text: b"process 7\r\n",
-                    fault: (12, 1, 9),
+                    fault: Some((12, 1, 9)),
                 },
                 Case {
                     text: b"process 7",
-                    fault: (13, 1, 9),
+                    fault: Some((13, 1, 9)),
                 },
             ]),
-            0
+            None
         );
     }
 
@@ -95,66 +87,66 @@ mod tests {
             first_wrong(&[
                 Case {
                     text: b"\n",
-                    fault: (21, 2, 1),
+                    fault: Some((21, 2, 1)),
                 },
                 Case {
                     text: b"node 1 start\n",
-                    fault: (21, 2, 1),
+                    fault: Some((21, 2, 1)),
                 },
                 Case {
                     text: b"process 1\nprocess 2\n",
-                    fault: (21, 2, 2),
+                    fault: Some((21, 2, 2)),
                 },
                 Case {
                     text: b"process  1\n",
-                    fault: (21, 2, 1),
+                    fault: Some((21, 2, 1)),
                 },
                 Case {
                     text: b"process 1 \n",
-                    fault: (21, 2, 1),
+                    fault: Some((21, 2, 1)),
                 },
                 Case {
                     text: b" process 1\n",
-                    fault: (21, 2, 1),
+                    fault: Some((21, 2, 1)),
                 },
                 Case {
                     text: b"process 1\nnode 1 start\n\nnode 2 end\n",
-                    fault: (21, 2, 3),
+                    fault: Some((21, 2, 3)),
                 },
                 Case {
                     text: b"process 1\nnode 1 start\nnode 2 end\nflow 1 1 2\nnode 3 end\n",
-                    fault: (21, 2, 5),
+                    fault: Some((21, 2, 5)),
                 },
                 Case {
                     text: b"process 1\nnode 1 task\n",
-                    fault: (21, 2, 2),
+                    fault: Some((21, 2, 2)),
                 },
                 Case {
                     text: b"process 1\nnode 1 start v1\n",
-                    fault: (21, 2, 2),
+                    fault: Some((21, 2, 2)),
                 },
                 Case {
                     text: b"process 1\nnode 007 starts\n",
-                    fault: (21, 2, 2),
+                    fault: Some((21, 2, 2)),
                 },
                 Case {
                     text: b"process 1\nnode 1 start\nnode 2 end\nflow 1 1 2 if v1 >=\n",
-                    fault: (21, 2, 4),
+                    fault: Some((21, 2, 4)),
                 },
                 Case {
                     text: b"process 1\nnode 1 start\nnode 2 end\nflow 1 1 2 if 1 >= 2\n",
-                    fault: (21, 2, 4),
+                    fault: Some((21, 2, 4)),
                 },
                 Case {
                     text: b"process 1\nnode 1 start\nnode 2 end\nflow 1 1 2 if v1 == 2\n",
-                    fault: (21, 2, 4),
+                    fault: Some((21, 2, 4)),
                 },
                 Case {
                     text: b"process v1\n",
-                    fault: (21, 2, 1),
+                    fault: Some((21, 2, 1)),
                 },
             ]),
-            0
+            None
         );
     }
 
@@ -165,58 +157,58 @@ mod tests {
             first_wrong(&[
                 Case {
                     text: b"process 007\n",
-                    fault: (22, 2, 1),
+                    fault: Some((22, 2, 1)),
                 },
                 Case {
                     text: b"process -0\n",
-                    fault: (22, 2, 1),
+                    fault: Some((22, 2, 1)),
                 },
                 Case {
                     text: b"process 0\n",
-                    fault: (22, 2, 1),
+                    fault: Some((22, 2, 1)),
                 },
                 Case {
                     text: b"process 65536\n",
-                    fault: (22, 2, 1),
+                    fault: Some((22, 2, 1)),
                 },
                 Case {
                     text: b"process -1\n",
-                    fault: (22, 2, 1),
+                    fault: Some((22, 2, 1)),
                 },
                 Case {
                     text: b"process 1\nnode 1 task v0\n",
-                    fault: (22, 2, 2),
+                    fault: Some((22, 2, 2)),
                 },
                 Case {
                     text: b"process 1\nnode 1 task v17\n",
-                    fault: (22, 2, 2),
+                    fault: Some((22, 2, 2)),
                 },
                 Case {
                     text: b"process 1\nnode 1 task v01\n",
-                    fault: (22, 2, 2),
+                    fault: Some((22, 2, 2)),
                 },
                 Case {
                     text: b"process 1\nnode 1 start\nnode 2 end\nflow 1 1 2 if v1 > 1000000001\n",
-                    fault: (22, 2, 4),
+                    fault: Some((22, 2, 4)),
                 },
                 Case {
                     text: b"process 1\nnode 1 start\nnode 2 end\nflow 1 1 2 if v1 > -1000000001\n",
-                    fault: (22, 2, 4),
+                    fault: Some((22, 2, 4)),
                 },
                 Case {
                     text: b"process 1\nnode 1 start\nnode 2 end\nflow 0 1 2\n",
-                    fault: (22, 2, 4),
+                    fault: Some((22, 2, 4)),
                 },
                 Case {
                     text: b"process 1\nnode 1 start\nnode 2 end\nflow 1 1 70000\n",
-                    fault: (22, 2, 4),
+                    fault: Some((22, 2, 4)),
                 },
                 Case {
                     text: b"process 1\nnode 1 start\nnode 2 end\nflow 9 1 70000\n",
-                    fault: (22, 2, 4),
+                    fault: Some((22, 2, 4)),
                 },
             ]),
-            0
+            None
         );
     }
 
@@ -226,30 +218,30 @@ mod tests {
             first_wrong(&[
                 Case {
                     text: b"process 1\nnode 2 start\n",
-                    fault: (23, 2, 2),
+                    fault: Some((23, 2, 2)),
                 },
                 Case {
                     text: b"process 1\nnode 1 start\nnode 2 end\nflow 2 1 2\n",
-                    fault: (23, 2, 4),
+                    fault: Some((23, 2, 4)),
                 },
                 Case {
                     text: b"process 1\nnode 1 start\nnode 2 end\nflow 2 1 9\n",
-                    fault: (23, 2, 4),
+                    fault: Some((23, 2, 4)),
                 },
                 Case {
                     text: b"process 1\nnode 1 start\nflow 1 1 2\n",
-                    fault: (25, 2, 3),
+                    fault: Some((25, 2, 3)),
                 },
                 Case {
                     text: b"process 1\nnode 1 start\nnode 2 end\nflow 1 3 2\n",
-                    fault: (25, 2, 4),
+                    fault: Some((25, 2, 4)),
                 },
                 Case {
                     text: b"process 1\nflow 1 1 2\n",
-                    fault: (25, 2, 2),
+                    fault: Some((25, 2, 2)),
                 },
             ]),
-            0
+            None
         );
     }
 
@@ -259,34 +251,34 @@ mod tests {
             first_wrong(&[
                 Case {
                     text: b"process 1\n",
-                    fault: (31, 3, 0),
+                    fault: Some((31, 3, 0)),
                 },
                 Case {
                     text: b"process 1\nnode 1 start\n",
-                    fault: (31, 3, 0),
+                    fault: Some((31, 3, 0)),
                 },
                 Case {
                     text: b"process 1\nnode 1 start\nnode 2 start\nnode 3 end\nflow 1 1 1\n",
-                    fault: (31, 3, 0),
+                    fault: Some((31, 3, 0)),
                 },
                 Case {
                     text: b"process 1\nnode 1 start\nnode 2 end\n",
-                    fault: (32, 3, 1),
+                    fault: Some((32, 3, 1)),
                 },
                 Case {
                     text: b"process 1\nnode 1 start\nnode 2 end\nflow 1 1 2\nflow 2 1 2\n",
-                    fault: (32, 3, 1),
+                    fault: Some((32, 3, 1)),
                 },
                 Case {
                     text: b"process 1\nnode 1 start\nnode 2 task v1\nnode 3 end\nflow 1 1 2\nflow 2 2 3\nflow 3 2 3\n",
-                    fault: (32, 3, 2),
+                    fault: Some((32, 3, 2)),
                 },
                 Case {
                     text: b"process 1\nnode 1 start\nnode 2 end\nnode 3 and\nflow 1 1 2\nflow 2 3 3\n",
-                    fault: (33, 3, 2),
+                    fault: Some((33, 3, 2)),
                 },
             ]),
-            0
+            None
         );
     }
 
@@ -296,38 +288,38 @@ mod tests {
             first_wrong(&[
                 Case {
                     text: b"process 1\nnode 1 start\nnode 2 xor\nnode 3 end\nflow 1 1 2\nflow 2 2 2 if v1 > 0\nflow 3 2 3 default\n",
-                    fault: (33, 3, 2),
+                    fault: Some((33, 3, 2)),
                 },
                 Case {
                     text: b"process 1\nnode 1 start\nnode 2 xor\nnode 3 end\nnode 4 end\nflow 1 1 2\nflow 2 2 3\nflow 3 2 4 default\n",
-                    fault: (34, 3, 2),
+                    fault: Some((34, 3, 2)),
                 },
                 Case {
                     text: b"process 1\nnode 1 start\nnode 2 xor\nnode 3 end\nnode 4 end\nflow 1 1 2\nflow 2 2 3 if v1 < 1\nflow 3 2 4\n",
-                    fault: (34, 3, 3),
+                    fault: Some((34, 3, 3)),
                 },
                 Case {
                     text: b"process 1\nnode 1 start\nnode 2 end\nflow 1 1 2 default\n",
-                    fault: (34, 3, 1),
+                    fault: Some((34, 3, 1)),
                 },
                 Case {
                     text: b"process 1\nnode 1 start\nnode 2 end\nflow 1 1 2 if v1 > 0\n",
-                    fault: (34, 3, 1),
+                    fault: Some((34, 3, 1)),
                 },
                 Case {
                     text: b"process 1\nnode 1 start\nnode 2 and\nnode 3 end\nnode 4 end\nflow 1 1 2\nflow 2 2 3 if v1 < 1\nflow 3 2 4\n",
-                    fault: (34, 3, 2),
+                    fault: Some((34, 3, 2)),
                 },
                 Case {
                     text: b"process 1\nnode 1 start\nnode 2 xor\nnode 3 end\nnode 4 end\nflow 1 1 2\nflow 2 2 3 default\nflow 3 2 4 default\n",
-                    fault: (35, 3, 3),
+                    fault: Some((35, 3, 3)),
                 },
                 Case {
                     text: b"process 1\nnode 1 start\nnode 2 end\nnode 3 xor\nnode 4 xor\nflow 1 1 2\nflow 2 3 4\nflow 3 4 3\n",
-                    fault: (36, 3, 3),
+                    fault: Some((36, 3, 3)),
                 },
             ]),
-            0
+            None
         );
     }
 
@@ -354,17 +346,14 @@ mod tests {
     #[test]
     fn the_most_nodes_and_flows(rt: HostRuntime) -> Result<(), Fail> {
         let heap = rt.alloc();
-        assert_eq!(rt;
-            verdict(row_of_gateways(heap, 40, 65)?.as_bytes()),
-            (0, 0, 0)
-        );
+        assert_eq!(rt; verdict(row_of_gateways(heap, 40, 65)?.as_bytes()), None);
         assert_eq!(rt;
             verdict(row_of_gateways(heap, 40, 66)?.as_bytes()),
-            (24, 2, 106)
+            Some((24, 2, 106))
         );
         assert_eq!(rt;
             verdict(row_of_gateways(heap, 41, 42)?.as_bytes()),
-            (24, 2, 42)
+            Some((24, 2, 42))
         );
         Ok(())
     }
@@ -377,15 +366,15 @@ mod tests {
             digits.push(b'1')?;
         }
         digits.push(b'\n')?;
-        assert_eq!(rt; verdict(digits.as_slice()), (22, 2, 1));
+        assert_eq!(rt; verdict(digits.as_slice()), Some((22, 2, 1)));
         let mut letters = Vec::new(heap);
         for _ in 0..16_383 {
             letters.push(b'a')?;
         }
         letters.push(b'\n')?;
-        assert_eq!(rt; verdict(letters.as_slice()), (21, 2, 1));
+        assert_eq!(rt; verdict(letters.as_slice()), Some((21, 2, 1)));
         letters.push(b'\n')?;
-        assert_eq!(rt; verdict(letters.as_slice()), (11, 1, 0));
+        assert_eq!(rt; verdict(letters.as_slice()), Some((11, 1, 0)));
         Ok(())
     }
 

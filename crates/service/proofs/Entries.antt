@@ -1,9 +1,12 @@
 -- The answers that wait, one more and one less.
-use Rattle.std.specs.Prelude.{◌≡◌, ℕ, zero, suc, ◌+◌, ◌<◌, ◌≤◌, Bool, true, false, cond, List, [], ◌∷◌, ◌++◌, length, drop, is_ok, Some, None, Ok, Err, Option, Result, ◌==◌, ◌≢◌, nat_eq, slice_index_or, refl}
+use Rattle.std.specs.Prelude.{◌≡◌, ℕ, zero, suc, ◌+◌, ◌<◌, ◌≤◌, Bool, true, false, cond, not, List, [], ◌∷◌, ◌++◌, length, is_ok, Some, None, Ok, Err, Option, Result, ◌==◌, ◌≢◌, nat_eq, refl}
 use Rattle.std.proofs.Common.{sym, ap, ◌∙◌, ⊎_elim, arith}
 use Rattle.std.proofs.Math.Path.{fun_ext}
-use Rattle.std.specs.List.{slice_get, remove}
-use Rattle.std.proofs.lemmas.List.{at_drop_more, at_drop_all, append-nil}
+use Rattle.std.specs.List.{slice_get, remove, count_by, position, position_or_len}
+use Rattle.std.proofs.lemmas.List.{append-nil}
+use Rattle.std.proofs.lemmas.List.Recursion.{is_count_by, is_position_or_len}
+use Rattle.std.proofs.lemmas.List.Sums.{prefix_len-le-length}
+use Rattle.std.proofs.lemmas.Bool.Decides.{nat_tests}
 use Rattle.std.proofs.lemmas.Bool.{and_from, and_parts, cases_eq, cond-true, cond-false, eq-eqb, ne_eqb, eqb-true, eqb-false}
 use Rattle.fault.specs.declared.service.ServiceFault.{ServiceFault}
 use Rattle.fault.specs.declared.service.ServiceFault.TheVariants.{NoAnswer}
@@ -15,28 +18,46 @@ use Rattle.service.specs.Entries.{entry, answers_for, place_for, is_sound, all_s
 use Rattle.service.specs.Waits.{Waits, oldest, rest, taken, added, waiting_to, waiting_in_all}
 use Rattle.service.specs.EntriesLemmas.{node-range}
 
--- ---- steps of the loops
+-- ---- the entries for a node, in the words of std
 
-module _ (es : List Waiting) (n i : ℕ) (d : Waiting) (within : i < length es) where
-  pub count-more : (slice_index_or es i d).node ≡ n → length (answers_for (drop i es) n) ≡ length (answers_for (drop (i + 1) es) n) + 1
-  count-more same =
-      let h = at_drop_more (λ l. answers_for l n) es i d within ∙ cond-true ((slice_index_or es i d).node == n) _ _ (eq-eqb (slice_index_or es i d).node n same) in
-      omega (arith, ap length h)
+count-is : (es : List Waiting) (n : ℕ) → length (answers_for es n) ≡ count_by (λ e. e.node == n) es
+count-is es n = is_count_by (λ l. length (answers_for l n)) (λ e. e.node == n) refl (λ e l. one-or-none (e.node == n) e.answer (answers_for l n)) es
+  where
+    one-or-none : (b : Bool) (a : Answer) (l : List Answer) → length (cond b (a ∷ l) l) ≡ cond b (1 + length l) (length l)
+    one-or-none true a l = omega arith
+    one-or-none false a l = refl
 
-  pub count-other : ((slice_index_or es i d).node ≢ n) → answers_for (drop i es) n ≡ answers_for (drop (i + 1) es) n
-  count-other other = at_drop_more (λ l. answers_for l n) es i d within ∙ cond-false ((slice_index_or es i d).node == n) _ _ (ne_eqb (slice_index_or es i d).node n other)
+pub counted : (es : List Waiting) (n k : ℕ) → k ≡ count_by (λ e. e.node == n) es → k ≡ length (answers_for es n)
+counted es n k e = e ∙ sym (count-is es n)
 
-  pub place_here : (slice_index_or es i d).node ≡ n → place_for (drop i es) n ≡ 0
-  place_here same = at_drop_more (λ l. place_for l n) es i d within ∙ cond-true ((slice_index_or es i d).node == n) 0 _ (eq-eqb (slice_index_or es i d).node n same)
+place-is : (es : List Waiting) (n : ℕ) → place_for es n ≡ position_or_len (λ e. e.node == n) es
+place-is es n = is_position_or_len (λ l. place_for l n) (λ e. e.node == n) refl (λ e l. here-or-later (e.node == n) (place_for l n)) es
+  where
+    here-or-later : (b : Bool) (k : ℕ) → cond b 0 (suc k) ≡ cond b 0 (1 + k)
+    here-or-later true k = refl
+    here-or-later false k = omega arith
 
-  pub place-more : ((slice_index_or es i d).node ≢ n) → place_for (drop i es) n ≡ suc (place_for (drop (i + 1) es) n)
-  place-more other = at_drop_more (λ l. place_for l n) es i d within ∙ cond-false ((slice_index_or es i d).node == n) 0 _ (ne_eqb (slice_index_or es i d).node n other)
+pub placed : (es : List Waiting) (n i : ℕ) → Some i ≡ position (λ e. e.node == n) es → i ≡ place_for es n
+placed es n i e = let is = place-is es n in grind (arith, nat_tests)
 
-pub none_left : (es : List Waiting) (n i : ℕ) → length es ≤ i → answers_for (drop i es) n ≡ []
-none_left es n i past = at_drop_all (λ l. answers_for l n) es i past
+-- no entry is for the node
+none-for : (es : List Waiting) (n : ℕ) → place_for es n ≡ length es → answers_for es n ≡ []
+none-for [] n e = refl
+none-for (d ∷ es) n e = here-or-later (d.node == n) e (none-for es n)
+  where
+    here-or-later : (b : Bool) → cond b 0 (suc (place_for es n)) ≡ suc (length es) → (place_for es n ≡ length es → answers_for es n ≡ []) → cond b (d.answer ∷ answers_for es n) (answers_for es n) ≡ []
+    here-or-later true e later = absurd (omega arith)
+    here-or-later false e later = later (omega arith)
 
-pub place_none : (es : List Waiting) (n i : ℕ) → length es ≤ i → place_for (drop i es) n ≡ 0
-place_none es n i past = at_drop_all (λ l. place_for l n) es i past
+place-most : (es : List Waiting) (n : ℕ) → place_for es n ≤ length es
+place-most es n = omega (arith, place-is es n, prefix_len-le-length (λ e. not (e.node == n)) es)
+
+pub not_placed : (es : List Waiting) (n : ℕ) → None ≡ position (λ e. e.node == n) es → answers_for es n ≡ []
+not_placed es n e =
+    let most = place-most es n in
+    let is = place-is es n in
+    let all : length es ≤ position_or_len (λ e. e.node == n) es = grind (arith, nat_tests) in
+    none-for es n (omega arith)
 
 -- ---- one entry more
 

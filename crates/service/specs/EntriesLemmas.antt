@@ -1,4 +1,4 @@
--- What waits is in range, and for nodes 1 to 40: the two laws of every service, for the tray and the order file.
+-- What waits among sound entries is in range, and for nodes 1 to 40.
 use Rattle.std.specs.Prelude.{◌≡◌, ℕ, ◌<◌, ◌≤◌, Bool, true, false, cond, List, [], ◌∷◌, length, ◌==◌, nat_le, refl}
 use Rattle.std.proofs.Common.{arith}
 use Rattle.std.proofs.lemmas.Bool.{and_parts, eqb-true, leb-true}

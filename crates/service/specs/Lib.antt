@@ -4,3 +4,4 @@ pub mod OrderFiles
 pub mod Piles
 pub mod Waits
 pub mod EntriesLemmas
+pub mod PilesLemmas

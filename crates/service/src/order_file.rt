@@ -3,8 +3,7 @@ ghost use Rattle.std.specs.Prelude.{◌≡◌, ◌≤◌, true, length};
 ghost use Rattle.reading.specs.Orders.{orders_in_range};
 ghost use Rattle.service.specs.OrderFiles.{order_waits, waits_from, fault_of, Over};
 ghost use Rattle.service.specs.Piles.{waits_in};
-ghost use Rattle.process.specs.Rows.{items};
-ghost use Rattle.service.specs.EntriesLemmas.{sound-ranged, sound-numbered};
+ghost use Rattle.service.specs.PilesLemmas.{ranged-in, numbered-in};
 
 use crate::answer::Answer;
 use crate::pile::Pile;
@@ -13,7 +12,8 @@ use fault::line::LineFault;
 use fault::service::ServiceFault;
 use reading::order::{MOST_LINES, OrderLine, read_order};
 
-/// The answers of an order text. Where the text is refused there is none, and the fault is known.
+/// The answers of an order text. Where the text is refused there is none, and the fault is known. The fault stands beside the
+/// pile and not in place of it: so each call of the service is the pile's, and need not ask which is there.
 #[derive(Drop)]
 pub struct OrderFile {
     pile: Pile<MOST_LINES>,
@@ -59,12 +59,13 @@ impl OrderFile {
     }
 }
 
+// Hands on to the pile, as the tray does: each is a struct of its own.
 impl Service for OrderFile {
     ghost waits = { waits_from };
 
-    ghost ranged = { λ f n. sound-ranged (items f.pile.entries) n f.pile.sound };
+    ghost ranged = { λ f. ranged-in f.pile };
 
-    ghost numbered = { λ f n some. sound-numbered (items f.pile.entries) n f.pile.sound some };
+    ghost numbered = { λ f. numbered-in f.pile };
 
     fn waiting(&self, node: u16) -> usize {
         self.pile.waiting(node)

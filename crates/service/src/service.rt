@@ -6,6 +6,7 @@ ghost use Rattle.service.specs.Waits.{Ranged, oldest, taken};
 use crate::answer::Answer;
 use fault::service::ServiceFault;
 
+// A trait and no closures: a public call may not require that a closure can be called.
 /// Holds for each node the answers that still wait, oldest first. That is all that is known of a service.
 pub trait Service {
     ghost waits: { Self → ℕ → List Answer };

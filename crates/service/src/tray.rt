@@ -3,8 +3,7 @@ ghost use Rattle.std.specs.Prelude.{◌≡◌, ℕ, ◌≤◌, []};
 ghost use Rattle.service.specs.Answers.{answer};
 ghost use Rattle.service.specs.Piles.{waits_on};
 ghost use Rattle.service.specs.Waits.{waiting_in_all, put_verdict, Put};
-ghost use Rattle.process.specs.Rows.{items};
-ghost use Rattle.service.specs.EntriesLemmas.{sound-ranged, sound-numbered};
+ghost use Rattle.service.specs.PilesLemmas.{ranged-in, numbered-in};
 
 use crate::answer::Answer;
 use crate::pile::Pile;
@@ -14,7 +13,8 @@ use fault::service::ServiceFault;
 /// The most answers that wait in a tray.
 pub const MOST_WAITING: usize = 64;
 
-/// At most 64 answers, over all nodes.
+/// At most 64 answers, over all nodes. A struct around its pile, as the order file is: only a tray can be put into, and only
+/// an order file has a fault. What both do as a service is the pile's.
 #[derive(Drop)]
 pub struct Tray {
     pile: Pile<MOST_WAITING>,
@@ -42,9 +42,9 @@ impl Tray {
 impl Service for Tray {
     ghost waits = { waits_on };
 
-    ghost ranged = { λ t n. sound-ranged (items t.pile.entries) n t.pile.sound };
+    ghost ranged = { λ t. ranged-in t.pile };
 
-    ghost numbered = { λ t n some. sound-numbered (items t.pile.entries) n t.pile.sound some };
+    ghost numbered = { λ t. numbered-in t.pile };
 
     fn waiting(&self, node: u16) -> usize {
         self.pile.waiting(node)

@@ -1,6 +1,5 @@
 //! An answer in its place among those that wait.
-ghost use Rattle.std.specs.Prelude.{◌≡◌, length};
-ghost use Rattle.service.specs.Entries.{answers_for, place_for};
+ghost use Rattle.std.specs.Prelude.{◌≡◌, ◌==◌, count_by, position};
 
 use crate::answer::Answer;
 
@@ -13,25 +12,14 @@ pub struct Waiting {
 
 /// How many of the entries are for the node.
 pub(crate) fn count_for(entries: &[Waiting], node: u16) -> usize
-    ensures { result ≡ length (answers_for entries.now node) }
+    ensures { result ≡ count_by (λ (e : Waiting). e.node == node) entries.now }
 {
-    let mut count = 0;
-    for entry in entries {
-        if entry.node == node {
-            count += 1;
-        }
-    }
-    count
+    entries.iter().filter(|entry| entry.node == node).count()
 }
 
-/// The place of the first entry for the node, or the number of entries where none is.
-pub(crate) fn place_for(entries: &[Waiting], node: u16) -> usize
-    ensures { result ≡ place_for entries.now node }
+/// The place of the first entry for the node.
+pub(crate) fn place_for(entries: &[Waiting], node: u16) -> Option<usize>
+    ensures { result ≡ position (λ (e : Waiting). e.node == node) entries.now }
 {
-    for (place, entry) in entries.iter().enumerate() {
-        if entry.node == node {
-            return place;
-        }
-    }
-    entries.len()
+    entries.iter().position(|entry| entry.node == node)
 }

@@ -1,23 +1,17 @@
 //! Order texts: accepted ones, and each fault with its place.
-use service::order_file::OrderFile;
-
-/// The number, layer and place of the fault of an order text; all 0 where it is accepted.
-fn verdict(text: &[u8]) -> (u8, u8, usize) {
-    match OrderFile::over(text).fault() {
-        None => (0, 0, 0),
-        Some(fault) => {
-            let record = fault.record();
-            (record.number, record.layer, record.place)
-        }
-    }
-}
 
 #[cfg(test)]
 mod tests {
-    use super::*;
     use service::answer::Answer;
+    use service::order_file::OrderFile;
     use service::service::Service;
     use std::test::Fail;
+
+    // The number, layer and place of the fault of an order text.
+    fn verdict(text: &[u8]) -> Option<(u8, u8, usize)> {
+        let record = OrderFile::over(text).fault()?.record();
+        Some((record.number, record.layer, record.place))
+    }
 
     #[test]
     fn line_order(rt: HostRuntime) -> Result<(), Fail> {
@@ -48,32 +42,32 @@ mod tests {
 
     #[test]
     fn faults_of_the_text(rt: HostRuntime) {
-        assert_eq!(rt; verdict(b""), (11, 1, 0));
-        assert_eq!(rt; verdict(b"answer 1 1\nAnswer 1 1\n"), (12, 1, 11));
-        assert_eq!(rt; verdict(b"answer 1 1"), (13, 1, 10));
+        assert_eq!(rt; verdict(b""), Some((11, 1, 0)));
+        assert_eq!(rt; verdict(b"answer 1 1\nAnswer 1 1\n"), Some((12, 1, 11)));
+        assert_eq!(rt; verdict(b"answer 1 1"), Some((13, 1, 10)));
     }
 
     #[test]
     fn form(rt: HostRuntime) {
-        assert_eq!(rt; verdict(b"\n"), (21, 2, 1));
-        assert_eq!(rt; verdict(b"answer 1 1\nanswer 1\n"), (21, 2, 2));
-        assert_eq!(rt; verdict(b"answer 1 1 1\n"), (21, 2, 1));
-        assert_eq!(rt; verdict(b"answer 1  1\n"), (21, 2, 1));
-        assert_eq!(rt; verdict(b"answer 1 1 \n"), (21, 2, 1));
-        assert_eq!(rt; verdict(b"answer 1 v1\n"), (21, 2, 1));
-        assert_eq!(rt; verdict(b"process 1\n"), (21, 2, 1));
-        assert_eq!(rt; verdict(b"answer 007 start\n"), (21, 2, 1));
+        assert_eq!(rt; verdict(b"\n"), Some((21, 2, 1)));
+        assert_eq!(rt; verdict(b"answer 1 1\nanswer 1\n"), Some((21, 2, 2)));
+        assert_eq!(rt; verdict(b"answer 1 1 1\n"), Some((21, 2, 1)));
+        assert_eq!(rt; verdict(b"answer 1  1\n"), Some((21, 2, 1)));
+        assert_eq!(rt; verdict(b"answer 1 1 \n"), Some((21, 2, 1)));
+        assert_eq!(rt; verdict(b"answer 1 v1\n"), Some((21, 2, 1)));
+        assert_eq!(rt; verdict(b"process 1\n"), Some((21, 2, 1)));
+        assert_eq!(rt; verdict(b"answer 007 start\n"), Some((21, 2, 1)));
     }
 
     #[test]
     fn numbers(rt: HostRuntime) {
-        assert_eq!(rt; verdict(b"answer 1 1\nanswer 0 1\n"), (22, 2, 2));
-        assert_eq!(rt; verdict(b"answer 41 1\n"), (22, 2, 1));
-        assert_eq!(rt; verdict(b"answer -1 1\n"), (22, 2, 1));
-        assert_eq!(rt; verdict(b"answer 01 1\n"), (22, 2, 1));
-        assert_eq!(rt; verdict(b"answer 1 -0\n"), (22, 2, 1));
-        assert_eq!(rt; verdict(b"answer 1 1000000001\n"), (22, 2, 1));
-        assert_eq!(rt; verdict(b"answer 1 -1000000001\n"), (22, 2, 1));
+        assert_eq!(rt; verdict(b"answer 1 1\nanswer 0 1\n"), Some((22, 2, 2)));
+        assert_eq!(rt; verdict(b"answer 41 1\n"), Some((22, 2, 1)));
+        assert_eq!(rt; verdict(b"answer -1 1\n"), Some((22, 2, 1)));
+        assert_eq!(rt; verdict(b"answer 01 1\n"), Some((22, 2, 1)));
+        assert_eq!(rt; verdict(b"answer 1 -0\n"), Some((22, 2, 1)));
+        assert_eq!(rt; verdict(b"answer 1 1000000001\n"), Some((22, 2, 1)));
+        assert_eq!(rt; verdict(b"answer 1 -1000000001\n"), Some((22, 2, 1)));
     }
 
     #[test]
@@ -85,7 +79,7 @@ mod tests {
         }
         assert_eq!(rt; OrderFile::over(text.as_slice()).waiting(7), 1_489);
         text.extend_from_slice(b"answer 7 0\n")?;
-        assert_eq!(rt; verdict(text.as_slice()), (11, 1, 0));
+        assert_eq!(rt; verdict(text.as_slice()), Some((11, 1, 0)));
         Ok(())
     }
 }

@@ -1,29 +1,22 @@
 -- Pieces, and the bytes that they are cut from.
-use Rattle.std.proofs.Common.{◌≡◌, ℕ, ◌+◌, ◌<◌, true, cond, eqb, List, [], ◌∷◌, ◌++◌, length, sym, refl, ap, ◌∙◌, subst, ⊎_elim, append-nil, arith, length-append}
-use Rattle.std.specs.List.{AllByRecursion as All}
+use Rattle.std.proofs.Common.{◌≡◌, ℕ, ◌+◌, ◌<◌, true, false, cond, not, eqb, List, [], ◌∷◌, ◌++◌, length, sym, refl, ap, ◌∙◌, subst, ⊎_elim, arith, length-append}
+use Rattle.std.specs.List.{AllByRecursion as All, All as Each, slice_split, join_with_byte}
 use Rattle.std.proofs.lemmas.Bool.{and_from, and_parts, not_from_false, not-true, eq-eqb, ne_eqb}
 use Rattle.std.proofs.lemmas.Bool.Decides.{eqb_tells}
+use Rattle.std.proofs.lemmas.List.Recursion.{and_at}
+use Rattle.std.proofs.lemmas.List.Splits.{join_with_byte-slice_split, slice_split_at, slice_split_none}
 use Rattle.text.specs.Pieces.{before_first, pieces, joined, lacks}
-use Rattle.text.proofs.Cuts.{onto, cut-none, pieces-some}
+use Rattle.text.proofs.Cuts.{pieces-is, pieces-some}
 
 -- ---- the joined pieces are the bytes
 
-joined-skip : (sep : ℕ) (ws : List (List ℕ)) → 0 < length ws → joined sep ([] ∷ ws) ≡ sep ∷ joined sep ws
-joined-skip sep [] some = absurd (omega arith)
-joined-skip sep (w ∷ ws) some = refl
-
-joined-first : (sep b : ℕ) (ws : List (List ℕ)) → 0 < length ws → joined sep (before_first b ws) ≡ b ∷ joined sep ws
-joined-first sep b [] some = absurd (omega arith)
-joined-first sep b (w ∷ []) some = refl
-joined-first sep b (w ∷ v ∷ vs) some = refl
+joined-is : (sep : ℕ) (ws : List (List ℕ)) → joined sep ws ≡ join_with_byte sep ws
+joined-is sep [] = refl
+joined-is sep (w ∷ []) = refl
+joined-is sep (w ∷ v ∷ vs) = ap (λ l. w ++ (sep ∷ l)) (joined-is sep (v ∷ vs))
 
 pub joined-pieces : (sep : ℕ) (bs : List ℕ) → joined sep (pieces sep bs) ≡ bs
-joined-pieces sep [] = refl
-joined-pieces sep (b ∷ bs) =
-    ⊎_elim
-    (λ p. ap (λ t. joined sep (cond t ([] ∷ pieces sep bs) (before_first b (pieces sep bs)))) p.0 ∙ joined-skip sep (pieces sep bs) (pieces-some sep bs) ∙ (λ i. sym p.1 i ∷ joined-pieces sep bs i))
-    (λ p. ap (λ t. joined sep (cond t ([] ∷ pieces sep bs) (before_first b (pieces sep bs)))) p.0 ∙ joined-first sep b (pieces sep bs) (pieces-some sep bs) ∙ ap (λ l. b ∷ l) (joined-pieces sep bs))
-    (eqb_tells b sep)
+joined-pieces sep bs = ap (joined sep) (pieces-is sep bs) ∙ joined-is sep (slice_split (λ b. eqb b sep) bs) ∙ join_with_byte-slice_split sep bs
 
 -- ---- how long the pieces are
 
@@ -42,27 +35,18 @@ weight-pieces sep bs = weight-joined sep (pieces sep bs) (pieces-some sep bs) �
 
 -- ---- the pieces of joined words are the words
 
-first-onto : (b : ℕ) (w : List ℕ) (ps : List (List ℕ)) → before_first b (onto w ps) ≡ onto (b ∷ w) ps
-first-onto b w [] = refl
-first-onto b w (p ∷ ps) = refl
-
-pieces-front : (sep : ℕ) (w bs : List ℕ) → lacks sep w ≡ true → pieces sep (w ++ bs) ≡ onto w (pieces sep bs)
-pieces-front sep [] bs h = cut-none sep bs
-pieces-front sep (b ∷ w) bs h =
-    let p = and_parts _ (lacks sep w) h in
-    ap (λ t. cond t ([] ∷ pieces sep (w ++ bs)) (before_first b (pieces sep (w ++ bs)))) (not-true (eqb b sep) p.0)
-    ∙ ap (before_first b) (pieces-front sep w bs p.1)
-    ∙ first-onto b w (pieces sep bs)
+lacks-all : (sep : ℕ) (w : List ℕ) → lacks sep w ≡ true → Each (λ b. eqb b sep ≡ false) w
+lacks-all sep w h = λ i d within. not-true _ (and_at (lacks sep) (λ b. not (eqb b sep)) refl (λ _ _. refl) w i d within h)
 
 -- a word that lacks the separator is one piece, and a separator after it begins the next
 pub pieces-one : (sep : ℕ) (w : List ℕ) → lacks sep w ≡ true → pieces sep w ≡ w ∷ []
-pieces-one sep w h = ap (pieces sep) (sym (append-nil w)) ∙ pieces-front sep w [] h ∙ ap (λ l. l ∷ []) (append-nil w)
+pieces-one sep w h = pieces-is sep w ∙ slice_split_none (λ b. eqb b sep) w (lacks-all sep w h)
 
 pub pieces_more : (sep : ℕ) (w bs : List ℕ) → lacks sep w ≡ true → pieces sep (w ++ (sep ∷ bs)) ≡ w ∷ pieces sep bs
 pieces_more sep w bs h =
-    pieces-front sep w (sep ∷ bs) h
-    ∙ ap (λ t. onto w (cond t ([] ∷ pieces sep bs) (before_first sep (pieces sep bs)))) (eq-eqb sep sep refl)
-    ∙ ap (λ l. l ∷ pieces sep bs) (append-nil w)
+    pieces-is sep (w ++ (sep ∷ bs))
+    ∙ slice_split_at (λ b. eqb b sep) w sep bs (lacks-all sep w h) (eq-eqb sep sep refl)
+    ∙ ap (λ l. w ∷ l) (sym (pieces-is sep bs))
 
 pub pieces-joined : (sep : ℕ) (ws : List (List ℕ)) → 0 < length ws → All (λ w. lacks sep w ≡ true) ws → pieces sep (joined sep ws) ≡ ws
 pieces-joined sep [] some all = absurd (omega arith)

@@ -1,10 +1,9 @@
-mod Cuts
+pub mod Cuts
 pub mod Joins
 pub mod Numerals
 mod Operators
 mod Scans
 pub mod Separators
-mod Shapes
 mod Spellings
 pub mod Tokens
 mod Writings

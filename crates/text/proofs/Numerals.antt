@@ -1,13 +1,14 @@
 -- The number that a word writes, and the one word that writes a number.
 use Rattle.std.proofs.Common.{◌≡◌, ℕ, zero, suc, ◌^◌, ◌<◌, Bool, true, false, cond, not, ◌&&◌, ◌||◌, eqb, ltb, List, ◌∷◌, length, get_or, drop, ℤ, pos, negsuc, neg_ℤ, nat_abs, ◌≤ℤ◌, Some, None, decimal, Option, sym, refl, ap, ◌∙◌, subst, ⊎_elim, arith, MatchOption}
 use lib.Signed.{le_z, mag}
+use Rattle.std.specs.Bool.{then_some}
 use Rattle.std.specs.Str.Parse.{digits_value, starts_with_minus}
 use Rattle.std.specs.Fmt.{signed_decimal}
 use Rattle.std.specs.Str.{all_ascii_digits}
 use Rattle.std.proofs.lemmas.Fmt.{digits_decimal, digits_value-decimal, decimal-digits_value, decimal_nonempty, first_decimal, decimal_digit}
 use Rattle.std.proofs.lemmas.Str.Parse.{IsNumeralModel, numerals_by_value, tells_all_ascii_digits}
 use Rattle.std.proofs.lemmas.Int.{ints}
-use Rattle.std.proofs.lemmas.Bool.{eqb-true, eqb-false, ltb-true, ltb-false, lt-ltb, ne_eqb, and_from, and_parts, and_cases, and_left, not-true, not_from_false, cond-true, cond-false, cases_Bool, or_parts, false≢true}
+use Rattle.std.proofs.lemmas.Bool.{both_ways, eqb-true, eqb-false, ltb-true, ltb-false, lt-ltb, ne_eqb, and_from, and_parts, and_cases, and_left, not-true, not_from_false, cond-true, cond-false, cases_Bool, or_parts, false≢true}
 use Rattle.text.specs.Numbers.{some_digits, digits_of, number_shape, figure_shape, numeral, Names, Spells}
 use Rattle.text.proofs.Writings.{cons-front, digit-first, one_value}
 
@@ -172,3 +173,18 @@ module _ (low high : ℤ) (least : mag low < 2 ^ 31) (most : mag high < 2 ^ 31) 
   -- a word names no number in range but the one that it writes
   pub same-value : (u v : ℤ) → Spells w u → Names w low high v → u ≡ v
   same-value u v s n = one_value w u v s (spells v n)
+
+  -- what is told of the number that the word writes
+  module _ (u : ℤ) (s : Spells w u) where
+    pub too_wide : (mag u < 2 ^ 31 → ⊥) → (v : ℤ) → Names w low high v → ⊥
+    too_wide wide v n = wide (subst (λ x. mag x < 2 ^ 31) (sym (same-value u v s n)) (within low high v least most n.from n.to))
+
+    pub told : (b : Bool) → b ≡ (le_z low u && le_z u high) → MatchOption (then_some b u) ((v : ℤ) → Names w low high v → ⊥) (λ v. Names w low high v)
+    told true e =
+        let p = and_parts (le_z low u) (le_z u high) (sym e) in
+        record { from = grind (arith, ints); to = grind (arith, ints); same = s.same }
+    told false e = λ v n.
+        let same = same-value u v s n in
+        let least : le_z low u ≡ true = rw same (let f = n.from in grind (arith, ints)) in
+        let most : le_z u high ≡ true = rw same (let t = n.to in grind (arith, ints)) in
+        both_ways _ (sym e) (and_from _ _ least most)

@@ -17,3 +17,5 @@ operator-by-length [] = refl
 operator-by-length (a ∷ []) = grind (arith, nat_tests)
 operator-by-length (a ∷ b ∷ []) = grind (arith, nat_tests)
 operator-by-length (a ∷ b ∷ c ∷ w) = grind (arith, nat_tests)
+
+pub ruleset by_length = (operator-by-length, nat_tests)

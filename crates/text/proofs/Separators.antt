@@ -1,9 +1,7 @@
 -- No word holds a space or a line feed, nor any byte up to the space.
-use Rattle.std.proofs.Common.{◌≡◌, ℕ, ◌^◌, ◌<◌, ◌≤◌, Bool, true, cond, ◌&&◌, eqb, ltb, leb, List, [], ◌∷◌, length, get_or, drop, ℤ, Some, decimal, refl, ap, ◌∙◌, subst, ⊎_elim, arith}
-use lib.Signed.{mag}
+use Rattle.std.proofs.Common.{◌≡◌, ℕ, ◌≤◌, Bool, true, cond, ◌&&◌, eqb, ltb, leb, List, [], ◌∷◌, length, get_or, drop, Some, refl, ap, ◌∙◌, subst, ⊎_elim, arith}
 use Rattle.std.specs.Str.Parse.{starts_with_minus}
 use Rattle.std.specs.Char.{is_ascii_digit}
-use Rattle.std.specs.Fmt.{signed_decimal}
 use Rattle.std.specs.Str.{all_ascii_digits}
 use Rattle.std.proofs.lemmas.Bool.{and_from, and_parts, cases_Bool, eqb-true, leb-true, lt-ltb, ltb-true, ne_eqb, not_from_false}
 use Rattle.process.specs.declared.flow.Operator.{Operator}
@@ -13,7 +11,7 @@ use Rattle.text.specs.declared.words.Keyword.TheVariants as keywords
 use Rattle.text.specs.Numbers.{some_digits, number_shape, figure_shape}
 use Rattle.text.specs.Pieces.{lacks}
 use Rattle.text.specs.Words.{spelling, symbol, Token, keyword, number, figure, operator, word_of}
-use Rattle.text.proofs.Tokens.{Reads, reads-from-word, word-spelling, word-symbol, word-decimal, word-signed, word-figure-decimal}
+use Rattle.text.proofs.Tokens.{Reads, reads-from-word}
 use Rattle.text.proofs.Writings.{cons-front}
 
 -- each byte is above the space
@@ -81,18 +79,3 @@ visible-reads w (operator o) e = ap visible e ∙ visible-symbol o
 module _ (sep : ℕ) (low : sep ≤ 32) where
   pub lacks-word : (w : List ℕ) (t : Token) → word_of w ≡ Some t → lacks sep w ≡ true
   lacks-word w t e = visible-lacks sep low w (visible-reads w t (reads-from-word w t e))
-
-  pub lacks-spelling : (k : Keyword) → lacks sep (spelling k) ≡ true
-  lacks-spelling k = lacks-word (spelling k) (keyword k) (word-spelling k)
-
-  pub lacks-symbol : (o : Operator) → lacks sep (symbol o) ≡ true
-  lacks-symbol o = lacks-word (symbol o) (operator o) (word-symbol o)
-
-  pub lacks-decimal : (n : ℕ) → n < 2 ^ 64 → lacks sep (decimal n) ≡ true
-  lacks-decimal n h = lacks-word (decimal n) (number (decimal n)) (word-decimal n h)
-
-  pub lacks-signed : (v : ℤ) → mag v < 2 ^ 63 → lacks sep (signed_decimal v) ≡ true
-  lacks-signed v h = lacks-word (signed_decimal v) (number (signed_decimal v)) (word-signed v h)
-
-  pub lacks-figure : (n : ℕ) → n < 2 ^ 64 → lacks sep (118 ∷ decimal n) ≡ true
-  lacks-figure n h = lacks-word (118 ∷ decimal n) (figure (118 ∷ decimal n)) (word-figure-decimal n h)

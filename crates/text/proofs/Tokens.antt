@@ -16,10 +16,6 @@ use Rattle.text.proofs.Writings.{cons-front}
 -- ---- the tests in their order
 
 module _ (w : List ℕ) where
-  pub word-keyword : (k : Keyword) → keyword_of w ≡ Some k → word_of w ≡ Some (keyword k)
-  unfolding word_of
-  word-keyword k e = ap (λ o. if_keyword o (cond (number_shape w) (Some (number w)) (cond (figure_shape w) (Some (figure w)) (if_operator (operator_of w))))) e
-
   module _ (none : keyword_of w ≡ None) where
     pub word_number : number_shape w ≡ true → word_of w ≡ Some (number w)
     unfolding word_of
@@ -29,10 +25,6 @@ module _ (w : List ℕ) where
       pub word-figure : figure_shape w ≡ true → word_of w ≡ Some (figure w)
       unfolding word_of
       word-figure e = (λ i. if_keyword (none i) (cond (plain i) (Some (number w)) (cond (e i) (Some (figure w)) (if_operator (operator_of w)))))
-
-      pub word-operator : figure_shape w ≡ false → (o : Option Operator) → operator_of w ≡ o → word_of w ≡ if_operator o
-      unfolding word_of
-      word-operator e o is = (λ i. if_keyword (none i) (cond (plain i) (Some (number w)) (cond (e i) (Some (figure w)) (if_operator (is i)))))
 
 -- ---- the bytes of a word
 

@@ -1,7 +1,7 @@
 //! The checks of a text as a whole.
-ghost use Rattle.std.specs.Prelude.{◌≡◌, ◌≤◌, length};
+ghost use Rattle.std.specs.Prelude.{◌≡◌, not, position};
 ghost use Rattle.text.specs.Bytes.{allowed};
-ghost use Rattle.text.specs.Texts.{first_bad, text_check};
+ghost use Rattle.text.specs.Texts.{text_check};
 
 use fault::text::TextFault;
 
@@ -18,33 +18,26 @@ fn is_allowed(byte: u8) -> bool
     }
 }
 
-/// The offset of the first byte that is not allowed, or the length where each is.
-fn first_bad(text: &[u8]) -> usize
-    ensures value { result ≡ first_bad text.now }
-    ensures within { result ≤ length text.now }
+/// The offset of the first byte that is not allowed.
+fn first_bad(text: &[u8]) -> Option<usize>
+    ensures { result ≡ position (λ b. not (allowed b)) text.now }
 {
-    for (offset, byte) in text.iter().enumerate() {
-        if !is_allowed(*byte) {
-            return offset;
-        }
-    }
-    text.len()
+    text.iter().position(|byte| !is_allowed(*byte))
 }
 
 /// Refuses bytes that are no text, for the first of the reasons that holds.
+#[tactic(auto, using(crate::proofs::Scans::scans))]
 pub fn check_text(text: &[u8]) -> Result<(), TextFault>
     ensures { result ≡ text_check text.now }
 {
-    let length = text.len();
-    if text.is_empty() || length > MOST_BYTES {
+    if text.is_empty() || text.len() > MOST_BYTES {
         return Err(TextFault::Size);
     }
-    let offset = first_bad(text);
-    if offset < length {
+    if let Some(offset) = first_bad(text) {
         return Err(TextFault::Byte { offset });
     }
-    if text[length - 1] != b'\n' {
-        return Err(TextFault::Ending { length });
+    match text {
+        [.., b'\n'] => Ok(()),
+        _ => Err(TextFault::Ending { length: text.len() }),
     }
-    Ok(())
 }

@@ -47,6 +47,7 @@ fn spelling(keyword: Keyword) -> &'static [u8]
 pub fn keyword(bytes: &[u8]) -> Option<Keyword>
     ensures { result ≡ keyword_of bytes.now }
 {
+    // No `find`: with it the largest order text took 1.6 times the instructions, since only this loop is unrolled.
     for keyword in KEYWORDS {
         if bytes == spelling(keyword) {
             return Some(keyword);
@@ -56,6 +57,7 @@ pub fn keyword(bytes: &[u8]) -> Option<Keyword>
 }
 
 /// The operator that the bytes are.
+#[tactic(auto, using(crate::proofs::Operators::by_length))]
 pub fn operator(bytes: &[u8]) -> Option<Operator>
     ensures { result ≡ operator_of bytes.now }
 {
@@ -77,6 +79,7 @@ pub fn operator(bytes: &[u8]) -> Option<Operator>
 }
 
 /// The word that the part of the text is.
+#[tactic(auto, unfolding(crate::specs::Words::word_of))]
 pub fn classify<'a>(part: Part<'a>) -> Option<Word<'a>>
     ensures kind { option_map plain result ≡ word_of part.entry.bytes.now }
     ensures place { IfSome result (λ w. (bytes_of w ≡ part.entry.bytes.now) × (line_of w ≡ part.entry.line)) }

@@ -11,12 +11,7 @@ const MOST_DIGITS: usize = 10;
 fn is_digits(bytes: &[u8]) -> bool
     ensures { result ≡ some_digits bytes.now }
 {
-    for byte in bytes {
-        if !byte.is_ascii_digit() {
-            return false;
-        }
-    }
-    !bytes.is_empty()
+    !bytes.is_empty() && bytes.iter().all(|byte| byte.is_ascii_digit())
 }
 
 /// Whether the word is digits, perhaps after a minus: a number word, well written or not.
@@ -71,6 +66,7 @@ fn negative(digits: &[u8]) -> Option<i64>
     if n == 0 {
         return None;
     }
+    // at most ten digits, here and below: the cast is proved to lose nothing
     Some(-(n as i64))
 }
 
@@ -92,9 +88,6 @@ pub fn number(word: &[u8], low: i32, high: i32) -> Option<i32>
     ensures value { result ≡ numeral low high word.now }
     ensures written { MatchOption result ((v : ℤ) → Names word.now low high v → ⊥) (λ v. Names word.now low high v) }
 {
-    let value = integer(word)?;
-    if value < i64::from(low) || value > i64::from(high) {
-        return None;
-    }
-    Some(value as i32)
+    let value = i32::try_from(integer(word)?).ok()?;
+    (low..=high).contains(&value).then_some(value)
 }

@@ -14,16 +14,14 @@ pub fn cut_at<'a>(bytes: &'a [u8], separator: u8) -> Cut<'a>
     ensures pieces { pieces separator bytes.now ≡ result.first.now ∷ pieces_in separator result.rest }
     ensures shorter { length_left result.rest ≤ length bytes.now }
 {
-    for (offset, byte) in bytes.iter().enumerate() {
-        if *byte == separator {
-            return Cut {
-                first: &bytes[0..offset],
-                rest: Some(&bytes[offset + 1..]),
-            };
-        }
-    }
-    Cut {
-        first: bytes,
-        rest: None,
+    match bytes.iter().position(|byte| *byte == separator) {
+        Some(offset) => Cut {
+            first: &bytes[..offset],
+            rest: Some(&bytes[offset + 1..]),
+        },
+        None => Cut {
+            first: bytes,
+            rest: None,
+        },
     }
 }

@@ -1,5 +1,6 @@
 ghost use Rattle.std.specs.Prelude.{◌≡◌, ℕ, Decides};
 ghost use Rattle.process.specs.Sets.{has, joined, without};
+ghost use Rattle.model.specs.Rules.{kind_at};
 ghost use Rattle.marking.specs.Kept.{Counted};
 ghost use Rattle.marking.specs.Markings.{routing_of, tokens_of, nodes_of, flows_of};
 ghost use Rattle.marking.specs.Nodes.{Ready, Takes};
@@ -8,6 +9,7 @@ use super::Marking;
 use crate::recount::recount;
 use paths::routing::Routing;
 use process::node::Kind;
+use process::numbers::numbered;
 use process::sets::FlowSet;
 
 impl<'a> Marking<'a> {
@@ -29,6 +31,13 @@ impl<'a> Marking<'a> {
         ensures { result.now ≡ routing_of self.now }
     {
         self.routing
+    }
+
+    /// The kind of a node. A number that no node has is answered with `Start`.
+    pub fn kind(&self, node: u8) -> Kind
+        ensures { result ≡ kind_at (nodes_of self.now) node }
+    {
+        self.routing.model().kind(node)
     }
 
     /// The flows that carry a token.
@@ -56,20 +65,17 @@ impl<'a> Marking<'a> {
     pub fn holding_number(&self, node: u8) -> u8
         ensures { Counted (nodes_of self.now) (flows_of self.now) (tokens_of self.now) node result }
     {
-        let number = usize::from(node);
-        if number == 0 || number > self.holding.len() {
-            return 0;
-        }
-        self.holding[number - 1]
+        numbered(&self.holding, u16::from(node)).unwrap_or(0)
     }
 
     /// Whether the node is ready.
+    // The definition goes by the same cases.
     pub fn is_ready(&self, node: u8) -> bool
         ensures { Decides result (Ready (nodes_of self.now) (flows_of self.now) (tokens_of self.now) node) }
     {
         let inbound = self.routing.inbound(node);
         let coming_in = inbound.intersection(self.tokens);
-        match self.routing.model().kind(node) {
+        match self.kind(node) {
             Kind::Start => false,
             Kind::Parallel => inbound.difference(self.tokens).is_empty(),
             Kind::Inclusive => !coming_in.is_empty() && self.holding_number(node) == 0,
@@ -82,7 +88,7 @@ impl<'a> Marking<'a> {
         ensures { (f : ℕ) → Decides (has result f) (Takes (nodes_of self.now) (flows_of self.now) (tokens_of self.now) node f) }
     {
         let coming_in = self.routing.inbound(node).intersection(self.tokens);
-        match self.routing.model().kind(node) {
+        match self.kind(node) {
             Kind::Exclusive => match coming_in.lowest() {
                 Some(lowest) => FlowSet::single(lowest),
                 None => coming_in,

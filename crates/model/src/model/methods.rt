@@ -36,10 +36,12 @@ impl Model {
         ensures cases { MatchResult result (λ m. draft_of m ≡ process) (TheFault (drafts.nodes_of process) (drafts.flows_of process)) }
         ensures exact { Decides (is_ok result) (∥ Sound (drafts.nodes_of process) (drafts.flows_of process) ∥₁) }
     {
-        check_rules(process.nodes(), process.flows())?;
+        check_rules(&process)?;
         check_reached(&process)?;
         Ok(Model { process })
     }
+
+    // The getters are the draft's again: a model hides its draft, so that nothing can change it.
 
     /// The number of the process.
     pub fn number(&self) -> u16

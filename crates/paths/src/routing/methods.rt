@@ -1,53 +1,34 @@
 ghost use Rattle.std.specs.Prelude.{◌≡◌, ℕ, ◌≤◌, ◌&&◌, length, Decides};
 ghost use Rattle.process.specs.Sets.{has};
 ghost use Rattle.paths.specs.Paths.{Inbound, Outgoing};
-ghost use Rattle.paths.specs.Links.{chosen, entering, leaving};
+ghost use Rattle.paths.specs.Links.{chosen};
 ghost use Rattle.paths.specs.Routings.{model_of, flows_of, sources_of};
 ghost use Rattle.paths.specs.Tables.{row, LeadsTo};
 
 use super::Routing;
-use crate::links::{entering, leaving};
+use crate::links::{chosen, entering, leaving};
 use crate::reach::sources;
 use model::model::Model;
-use process::draft::{MOST_FLOWS, MOST_NODES};
-use process::flow::Flow;
+use process::numbers::numbered;
 use process::sets::FlowSet;
+use std::array;
 
-// For each node, at its place, the flows that enter it.
-fn inbound_table(flows: &[Flow]) -> [FlowSet; MOST_NODES]
-    requires { length flows.now ≤ 64 }
-    ensures value { (n : ℕ) → 1 ≤ n → n ≤ 40 → row result n ≡ entering flows.now n }
-    ensures long { length result ≡ 40 }
+// The set of each number from 1 to N, at its place.
+fn table<const N: usize, F: Fn(u8) -> FlowSet>(set_of: F) -> [FlowSet; N]
+    requires few { N ≤ 64 }
+    requires callable { F.IsAlwaysCallable set_of }
+    ensures value { (n : ℕ) → 1 ≤ n → n ≤ N → F.post set_of n (row result n) }
+    ensures long { length result ≡ N }
 {
-    let mut table = [FlowSet::empty(); MOST_NODES];
-    for place in 0..MOST_NODES {
-        table[place] = entering(flows, place as u8 + 1);
-    }
-    table
+    // a place below 64: the cast is proved to lose nothing
+    array::from_fn(|place| set_of(place as u8 + 1))
 }
 
-// For each node, at its place, the flows that leave it.
-fn outgoing_table(flows: &[Flow]) -> [FlowSet; MOST_NODES]
-    requires { length flows.now ≤ 64 }
-    ensures value { (n : ℕ) → 1 ≤ n → n ≤ 40 → row result n ≡ leaving flows.now n }
-    ensures long { length result ≡ 40 }
+// The set of a number, or none where the table has no such number.
+fn row(table: &[FlowSet], number: u8) -> FlowSet
+    ensures { result ≡ row table.now number }
 {
-    let mut table = [FlowSet::empty(); MOST_NODES];
-    for place in 0..MOST_NODES {
-        table[place] = leaving(flows, place as u8 + 1);
-    }
-    table
-}
-
-// The set of the node with this number, or none where there is no such node.
-fn of_node(table: &[FlowSet; MOST_NODES], node: u8) -> FlowSet
-    ensures { result ≡ row table.now node }
-{
-    let number = usize::from(node);
-    if number == 0 || number > MOST_NODES {
-        return FlowSet::empty();
-    }
-    table[number - 1]
+    numbered(table, u16::from(number)).unwrap_or(FlowSet::empty())
 }
 
 impl Routing {
@@ -55,10 +36,9 @@ impl Routing {
     pub fn of(model: Model) -> Routing
         ensures { model_of result ≡ model }
     {
-        let flows = model.flows();
-        let sources = sources(flows);
-        let inbound = inbound_table(flows);
-        let outgoing = outgoing_table(flows);
+        let sources = table(|end| sources(&model, end));
+        let inbound = table(|node| entering(&model, node));
+        let outgoing = table(|node| leaving(&model, node));
         Routing {
             model,
             sources,
@@ -78,14 +58,14 @@ impl Routing {
     pub fn inbound(&self, node: u8) -> FlowSet
         ensures { (e : ℕ) → Decides (has result e) (Inbound (flows_of self.now) node e) }
     {
-        of_node(&self.inbound, node)
+        row(&self.inbound, node)
     }
 
     /// The flows that leave the node. There is none where no node has this number.
     pub fn outgoing(&self, node: u8) -> FlowSet
         ensures { (f : ℕ) → Decides (has result f) (Outgoing (flows_of self.now) node f) }
     {
-        of_node(&self.outgoing, node)
+        row(&self.outgoing, node)
     }
 
     /// The flows from which some path ends in a flow of `ends` that avoids the node that this flow enters.
@@ -93,10 +73,8 @@ impl Routing {
         ensures { (f : ℕ) → Decides (has result f) (LeadsTo (sources_of self.now) ends 64 f) }
     {
         let mut found = FlowSet::empty();
-        for place in 0..MOST_FLOWS {
-            if ends.contains(place as u8 + 1) {
-                found = found.union(self.sources[place]);
-            }
+        for end in ends.iter() {
+            found = found.union(row(&self.sources, end));
         }
         found
     }
@@ -105,13 +83,8 @@ impl Routing {
     pub(crate) fn reached_from(&self, flow: u8, ends: FlowSet) -> FlowSet
         ensures { result ≡ chosen (λ e. has ends e && has (row (sources_of self.now) e) flow) 64 }
     {
-        let mut found = FlowSet::empty();
-        for place in 0..MOST_FLOWS {
-            let end = place as u8 + 1;
-            if ends.contains(end) && self.sources[place].contains(flow) {
-                found = found.insert(end);
-            }
-        }
-        found
+        chosen(&self.sources, |sources, end| {
+            ends.contains(end) && sources.contains(flow)
+        })
     }
 }

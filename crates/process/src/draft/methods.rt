@@ -1,14 +1,17 @@
 ghost use Rattle.std.specs.Prelude.{◌≡◌, ◌≤◌, true, false, [], length, MatchResult};
 ghost use Rattle.fault.specs.declared.line.LineFault.TheVariants.{Number};
-ghost use Rattle.process.specs.Drafts.{number_of, nodes_of, flows_of, NodeAdded, FlowAdded};
+ghost use Rattle.process.specs.Drafts.{number_of, nodes_of, flows_of, next_check, NodeAdded, FlowAdded};
+ghost use Rattle.process.specs.Rows.{items};
 ghost use Rattle.process.specs.Processes.{is_number, kind_in_range, guard_in_range, is_node};
 
-use super::{Draft, MOST_FLOWS, MOST_NODES};
+use super::Draft;
 use crate::flow::{Condition, Flow, Guard};
 use crate::node::Kind;
 use crate::ranges::{is_figure, is_value};
 use crate::row::Row;
 use fault::line::LineFault;
+
+// Here and below the definition goes by the same cases.
 
 fn kind_in_range(kind: Kind) -> bool
     ensures { result ≡ kind_in_range kind }
@@ -26,6 +29,24 @@ fn guard_in_range(guard: Guard) -> bool
         Guard::Plain | Guard::Default => true,
         Guard::If(condition) => is_figure(condition.figure) && is_value(condition.value),
     }
+}
+
+// Refuses an item, named in a line of the text, that the list has no room for, or whose number is not the next.
+fn check_next<T: Copy, const N: usize>(
+    list: &Row<T, N>,
+    line: usize,
+    number: u16,
+) -> Result<(), LineFault>
+    ensures { result ≡ next_check N (length (items list.now)) line number }
+{
+    let count = list.len();
+    if count >= N {
+        return Err(LineFault::TooMany { line });
+    }
+    if usize::from(number) != count + 1 {
+        return Err(LineFault::Sequence { line });
+    }
+    Ok(())
 }
 
 impl Draft {
@@ -85,13 +106,7 @@ impl Draft {
         if !kind_in_range(kind) {
             return Err(LineFault::Number { line });
         }
-        let count = self.nodes.len();
-        if count >= MOST_NODES {
-            return Err(LineFault::TooMany { line });
-        }
-        if usize::from(number) != count + 1 {
-            return Err(LineFault::Sequence { line });
-        }
+        check_next(&self.nodes, line, number)?;
         self.nodes.push(kind);
         Ok(())
     }
@@ -110,16 +125,11 @@ impl Draft {
         if !guard_in_range(guard) {
             return Err(LineFault::Number { line });
         }
-        let count = self.flows.len();
-        if count >= MOST_FLOWS {
-            return Err(LineFault::TooMany { line });
-        }
-        if usize::from(number) != count + 1 {
-            return Err(LineFault::Sequence { line });
-        }
+        check_next(&self.flows, line, number)?;
         if !self.has_node(from) || !self.has_node(to) {
             return Err(LineFault::MissingNode { line });
         }
+        // Both are numbers of nodes: each cast is proved to lose nothing.
         self.flows.push(Flow {
             from: from as u8,
             to: to as u8,

@@ -32,6 +32,7 @@ impl<T: Copy, const N: usize> Row<T, N> {
     }
 
     /// Puts an item behind the others, and tells whether there was room for it.
+    // A bool, as a set of std tells of an insert: no fault of the rules speaks of a row.
     pub fn push(&mut self, item: T) -> bool
         ensures told { result ≡ nat_lt (length (items self.old)) N }
         ensures after { items self.new ≡ (if result then items self.old ++ item ∷ [] else items self.old) }
@@ -43,6 +44,7 @@ impl<T: Copy, const N: usize> Row<T, N> {
         self.count += 1;
         true
     }
+
     /// Takes out the item at an index and closes the gap. `None`, and no change, where no item stands there.
     pub fn remove(&mut self, index: usize) -> Option<T>
         ensures told { result ≡ slice_get (items self.old) index }
@@ -52,9 +54,7 @@ impl<T: Copy, const N: usize> Row<T, N> {
             return None;
         }
         let item = self.memory[index];
-        for i in index + 1..self.count {
-            self.memory[i - 1] = self.memory[i];
-        }
+        self.memory.copy_within(index + 1..self.count, index);
         self.count -= 1;
         Some(item)
     }

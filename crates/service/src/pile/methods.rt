@@ -1,9 +1,11 @@
-ghost use Rattle.std.specs.Prelude.{◌≡◌, ℕ, [], length, is_ok, if◌then◌else◌};
+ghost use Rattle.std.specs.Prelude.{◌≡◌, ℕ, []};
 ghost use Rattle.service.specs.Piles.{waits_in};
-ghost use Rattle.service.specs.Waits.{oldest, taken, put_verdict, Put};
+ghost use Rattle.service.specs.PilesLemmas.{ranged-in, numbered-in};
+ghost use Rattle.service.specs.Waits.{put_verdict, Put};
 
 use super::Pile;
 use crate::answer::Answer;
+use crate::service::Service;
 use crate::waiting::{Waiting, count_for, place_for};
 use fault::service::ServiceFault;
 use process::ranges::is_node_number;
@@ -40,23 +42,24 @@ impl<const N: usize> Pile<N> {
         self.entries.push(Waiting { node, answer });
         Ok(())
     }
+}
 
-    /// How many answers wait for the node.
-    pub fn waiting(&self, node: u16) -> usize
-        ensures { result ≡ length (waits_in self.now node) }
-    {
+impl<const N: usize> Service for Pile<N> {
+    ghost waits = { waits_in };
+
+    ghost ranged = { ranged-in };
+
+    ghost numbered = { numbered-in };
+
+    #[tactic(auto, using(crate::proofs::Entries::counted))]
+    fn waiting(&self, node: u16) -> usize {
         count_for(self.entries.as_slice(), node)
     }
 
-    /// Gives and removes the oldest answer that waits for the node. Refused exactly if none waits.
-    pub fn take(&mut self, node: u16) -> Result<Answer, ServiceFault>
-        ensures reply { result ≡ oldest (waits_in self.old node) node }
-        ensures after { waits_in self.new ≡ (if is_ok result then taken (waits_in self.old) node else waits_in self.old) }
-    {
-        let place = place_for(self.entries.as_slice(), node);
-        match self.entries.remove(place) {
-            Some(entry) => Ok(entry.answer),
-            None => Err(ServiceFault::NoAnswer { node }),
-        }
+    fn take(&mut self, node: u16) -> Result<Answer, ServiceFault> {
+        let none = ServiceFault::NoAnswer { node };
+        let place = place_for(self.entries.as_slice(), node).ok_or(none)?;
+        let entry = self.entries.remove(place).ok_or(none)?;
+        Ok(entry.answer)
     }
 }

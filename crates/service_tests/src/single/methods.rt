@@ -1,4 +1,6 @@
-ghost use Rattle.service_tests.specs.Waiting.{waits_for};
+ghost use Rattle.std.specs.Prelude.{◌≡◌, ℕ, ◌==◌, if◌then◌else◌};
+ghost use Rattle.service.specs.Waits.{rest};
+ghost use Rattle.service_tests.specs.Waiting.{waits_for, Made, two_oldest};
 ghost use Rattle.std.proofs.Common.{rules};
 
 use super::Single;
@@ -9,7 +11,9 @@ use service::service::Service;
 
 impl Single {
     /// The answer for the node. Refused where a number is out of its range.
-    pub fn new(node: u16, answer: Answer) -> Result<Single, ServiceFault> {
+    pub fn new(node: u16, answer: Answer) -> Result<Single, ServiceFault>
+        ensures { Made node answer result }
+    {
         if !is_node_number(node) {
             return Err(ServiceFault::NodeNumber { node });
         }
@@ -31,11 +35,7 @@ impl Service for Single {
     ghost numbered = { Prim.search rules };
 
     fn waiting(&self, node: u16) -> usize {
-        if node == self.node && self.answer.is_some() {
-            1
-        } else {
-            0
-        }
+        usize::from(node == self.node && self.answer.is_some())
     }
 
     fn take(&mut self, node: u16) -> Result<Answer, ServiceFault> {
@@ -50,7 +50,10 @@ impl Service for Single {
 }
 
 /// The two oldest answers for a node, of any service.
-pub fn take_two<S: Service>(service: &mut S, node: u16) -> Result<(Answer, Answer), ServiceFault> {
+pub fn take_two<S: Service>(service: &mut S, node: u16) -> Result<(Answer, Answer), ServiceFault>
+    ensures reply { result ≡ two_oldest (S.waits service.old node) node }
+    ensures after { (n : ℕ) → S.waits service.new n ≡ (if n == node then rest (rest (S.waits service.old n)) else S.waits service.old n) }
+{
     let first = service.take(node)?;
     let second = service.take(node)?;
     Ok((first, second))

@@ -33,11 +33,11 @@ choice-of c =
     let made = choice-made (models.nodes_of (model_of r)) (flows_of r) c.args.figures.now n in
     elim c.match-kind.branch [
       | in-Exclusive w ↦
-          made Exclusive c.flows-flows.result.now w.exclusive_choice-chosen.result c.match-kind.chosen (w.in-Exclusive.ensures ∙ same_kind)
-          (le-leb 2 (outgoing (flows_of r) n) (omega (arith, count, w.if-outgoing_count-ge2.true))) same-flows w.chosen-is w.exclusive_choice-chosen.ensures
+          made Exclusive c.flows-flows.result.now w.exclusive-chosen.result c.match-kind.chosen (w.in-Exclusive.ensures ∙ same_kind)
+          (le-leb 2 (outgoing (flows_of r) n) (omega (arith, count, w.if-outgoing_count-ge2.true))) same-flows w.chosen-is w.exclusive-chosen.ensures
       | in-Inclusive w ↦
-          made Inclusive c.flows-flows.result.now w.inclusive_choice-chosen.result c.match-kind.chosen (w.in-Inclusive.ensures ∙ same_kind)
-          (le-leb 2 (outgoing (flows_of r) n) (omega (arith, count, w.if-outgoing_count-ge2-2.true))) same-flows w.chosen-is w.inclusive_choice-chosen.ensures
+          made Inclusive c.flows-flows.result.now w.inclusive-chosen.result c.match-kind.chosen (w.in-Inclusive.ensures ∙ same_kind)
+          (le-leb 2 (outgoing (flows_of r) n) (omega (arith, count, w.if-outgoing_count-ge2-2.true))) same-flows w.chosen-is w.inclusive-chosen.ensures
     ]
 
 pub returns-in_default : goal.returns-in_default

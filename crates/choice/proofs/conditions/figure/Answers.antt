@@ -1,7 +1,10 @@
-use Rattle.std.proofs.Common.{inl, inr, ⊎_elim, arith}
-use Rattle.choice.proofs.Figures.{no-figure}
+use Rattle.std.proofs.Common.{◌≡◌, pos, refl, rules}
+use Rattle.process.proofs.ByNumber.{looked-up}
+use Rattle.choice.specs.Conditions.{figure}
 use Rattle.choice.proofs.conditions.figure.Goals as goal
 
-pub returns-then-place-eq0 : goal.returns-then-place-eq0
-returns-then-place-eq0 c =
-    no-figure c.args.figures.now c.args.number (⊎_elim (λ z. inl (omega (arith, z))) (λ p. inr (omega (arith, p.1))) c.then-place-eq0.either)
+pub returns : goal.returns
+returns c =
+    let figures = c.args.figures.now in
+    let e : c.unwrap_or.result ≡ figure figures c.args.number = looked-up figures (pos 0) (figure figures) refl (λ k. refl) c.args.number _ _ _ c.from.ensures c.numbered.ensures c.unwrap_or.ensures in
+    search (rules, e)

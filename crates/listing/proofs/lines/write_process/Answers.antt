@@ -4,4 +4,4 @@ use Rattle.listing.proofs.lines.write_process.Goals as goal
 
 pub returns : goal.returns
 returns c =
-    record { text = then c.write_text-end.ensures (then (same_number c.from.ensures c.write_number-end.ensures.text) c.write_text.ensures); most = search rules }
+    record { wrote = then c.write_text-end.ensures (then (same_number c.from.ensures c.write_number-end.ensures.text) c.write_text.ensures); most = search rules }

@@ -9,4 +9,4 @@ returns c =
     let takes = c.write_set-end.ensures.text in
     let puts = c.write_set-end-2.ensures.text in
     let answer = c.write_answer_part-end.ensures.text in
-    record { text = then c.write_text-end.ensures (then step (then c.write_text-end-2.ensures (then node (then c.write_text-end-3.ensures (then takes (then c.write_text-end-4.ensures (then puts (then answer c.write_text.ensures)))))))); most = search rules }
+    record { wrote = then c.write_text-end.ensures (then step (then c.write_text-end-2.ensures (then node (then c.write_text-end-3.ensures (then takes (then c.write_text-end-4.ensures (then puts (then answer c.write_text.ensures)))))))); most = search rules }

@@ -6,4 +6,4 @@ pub returns : goal.returns
 returns c =
     let name = same_text c.stop_name.ensures c.write_text-end.ensures in
     let steps = same_number c.from.ensures c.write_number-end.ensures.text in
-    record { text = then name (then c.write_text-end-2.ensures (then steps c.write_text.ensures)); most = search rules }
+    record { wrote = then name (then c.write_text-end-2.ensures (then steps c.write_text.ensures)); most = search rules }

@@ -1,11 +1,11 @@
-use Rattle.std.proofs.Common.{◌≡◌, ◌-◌, ◌≤◌, length, take, ap, ◌∙◌, arith}
+use Rattle.std.proofs.Common.{◌≡◌, ◌+◌, ◌≤◌, eqb, length, take, ap, ◌∙◌, rules, arith}
+use Rattle.std.specs.List.{list_any}
 use Rattle.std.proofs.lemmas.Bool.{and_parts}
 use Rattle.process.specs.Drafts.{nodes_of, flows_of}
 use Rattle.process.specs.Processes.{is_number, kinds_in_range, flows_formed}
 use Rattle.fault.specs.declared.model.ModelFault.TheVariants.{NotReached}
-use Rattle.model.specs.Rules.{checked}
 use Rattle.model.specs.Sound.{start_of, member}
-use Rattle.model.proofs.Reaching.{searched-few, reached-verdict}
+use Rattle.model.proofs.Reaching.{searched-few, reached-verdict, member-any}
 use Rattle.model.proofs.reached.check_reached.Goals as goal
 
 pub unreachable-requires : goal.unreachable-requires
@@ -21,6 +21,6 @@ pub returns : goal.returns
 returns c =
     let d = c.args.draft.now in
     let number = c.in-Ok.number in
-    let whole : number - 0 ≡ number = omega arith in
-    let told = c.check.ensures ∙ ap (λ k. checked (member (take k c.reach.new.found)) NotReached (length c.nodes-nodes.result.now)) whole in
+    let reached = take number c.reach.new.found in
+    let told = c.check.ensures (member reached) NotReached (λ i x r lt is p. let e : r ≡ list_any (λ y. eqb y (i + 1)) reached = search rules in e ∙ member-any reached (i + 1)) (λ i f lt p. search rules) in
     reached-verdict (nodes_of d) (flows_of d) _ _ _ _ c.flows-flows.ensures.value (c.start_of-start.ensures ∙ ap start_of c.nodes-nodes.ensures.value) (ap length c.nodes-nodes.ensures.value) c.in-Ok.ensures.reached c.check.result told

@@ -1,20 +1,15 @@
-use Rattle.std.proofs.Common.{true, false, arith}
-use Rattle.std.proofs.lemmas.List.{at_drop_all}
-use Rattle.model.specs.Sound.{start_of}
-use Rattle.model.proofs.Reaching.{start-here}
+use Rattle.std.proofs.Common.{not, rules, tests, ap, ◌+◌, ◌∙◌}
+use Rattle.std.proofs.lemmas.Iterator.{YieldsList-from_slice}
+use Rattle.std.proofs.lemmas.Iterator.Consumers.{count_from_yields_List}
+use Rattle.std.proofs.lemmas.Iterator.Search.{YieldsList-from_take_while}
+use Rattle.std.proofs.lemmas.List.Folds.{length-prefix_len}
+use Rattle.model.specs.Rules.{is_start}
+use Rattle.model.proofs.Chains.{start_of-before}
 use Rattle.model.proofs.reached.start_of.Goals as goal
-
-pub returns-then-is_start : goal.returns-then-is_start
-returns-then-is_start c =
-    let e = start-here c.args.nodes.now c.loop-kind.kind-index c.loop-kind.invariant.1 true c.loop-kind-test.true c.if-is_start.ensures in
-    omega (arith, e, c.loop-kind.invariant.0)
-
-pub loop-kind-preserved : goal.loop-kind-preserved
-loop-kind-preserved c =
-    let e = start-here c.args.nodes.now c.loop-kind.kind-index c.loop-kind.invariant.1 false c.loop-kind-test.true c.if-is_start.ensures in
-    (omega (arith, c.loop-kind.invariant.0), omega (arith, e))
 
 pub returns : goal.returns
 returns c =
-    let e = at_drop_all start_of c.args.nodes.now c.loop-kind.kind-index c.loop-kind-test.false in
-    omega (arith, e, c.loop-kind.invariant.0, c.loop-kind.invariant.1)
+    let ks = c.args.nodes.now in
+    let e = count_from_yields_List c.take_while.result c.count.result c.count.ensures.ran
+    (YieldsList-from_take_while _ (λ k. not (is_start k)) (YieldsList-from_slice ks cc) c.take_while.ensures.closure c.take_while.ensures.done (λ x b q k. search (rules, tests))) in
+    ap (λ n. n + 1) (e ∙ length-prefix_len (λ k. not (is_start k)) ks) ∙ start_of-before ks

@@ -1,7 +1,8 @@
-use Rattle.std.proofs.Common.{inl, inr, ⊎_elim, arith}
-use Rattle.model.proofs.Checks.{no_kind}
+use Rattle.std.proofs.Common.{refl}
+use Rattle.process.specs.declared.node.Kind.TheVariants.{Start}
+use Rattle.process.proofs.ByNumber.{looked-up}
+use Rattle.model.specs.Rules.{kind_at}
 use Rattle.model.proofs.rules.kind_at.Goals as goal
 
-pub returns-then-place-eq0 : goal.returns-then-place-eq0
-returns-then-place-eq0 c =
-    no_kind c.args.nodes.now c.args.node (⊎_elim (λ z. inl (omega (arith, z))) (λ p. inr (omega (arith, p.1))) c.then-place-eq0.either)
+pub returns : goal.returns
+returns c = looked-up c.args.nodes.now Start (kind_at c.args.nodes.now) refl (λ k. refl) c.args.node _ _ _ c.from.ensures c.numbered.ensures c.unwrap_or.ensures

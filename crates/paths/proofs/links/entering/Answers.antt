@@ -1,31 +1,20 @@
-use Rattle.std.proofs.Common.{◌≡◌, ℕ, eqb, length, sym, ap, ◌∙◌, arith}
-use Rattle.std.proofs.lemmas.Bool.{eq-eqb, ne_eqb}
+use Rattle.std.proofs.Common.{◌≡◌, ℕ, eqb, List, length, ap, ◌∙◌, rules}
+use Rattle.process.specs.declared.flow.Flow.{Flow}
+use Rattle.model.specs.Models.{flows_of}
 use Rattle.paths.specs.Paths.{target}
 use Rattle.paths.specs.Links.{chosen, entering}
-use Rattle.paths.proofs.Chosen.{chosen_none, chosen-take, chosen-skip, target_at}
+use Rattle.paths.proofs.Chosen.{flow-there}
 use Rattle.paths.proofs.links.entering.Goals as goal
-use Rattle.paths.proofs.links.entering.Goals.{then-flows-place, else-flows-place}
-
-pub loop-place-init : goal.loop-place-init
-loop-place-init c = c.empty-found.ensures ∙ chosen_none (λ (n : ℕ). eqb (target c.args.flows.now n) c.args.node)
-
-pub loop-place-preserved : goal.loop-place-preserved
-loop-place-preserved c =
-    let flows = c.args.flows.now in
-    let i = c.loop-place.place in
-    let p = λ (n : ℕ). eqb (target flows n) c.args.node in
-    elim c.if-flows-place.branch [
-      | then-flows-place w ↦
-          w.found-is ∙ w.insert-found.ensures
-          ∙ chosen-take p i c.loop-place.found (eq-eqb _ _ (target_at flows i ∙ w.if-flows-place.true)) c.loop-place.invariant
-      | else-flows-place w ↦
-          w.found-is
-          ∙ chosen-skip p i c.loop-place.found (ne_eqb _ _ (λ e. w.if-flows-place.false (sym (target_at flows i) ∙ e))) c.loop-place.invariant
-    ]
 
 pub returns : goal.returns
-unfolding entering
+unfolding entering target
 returns c =
-    let flows = c.args.flows.now in
-    let all : c.loop-place.place ≡ length flows = omega arith in
-    c.loop-place.invariant ∙ ap (chosen (λ (n : ℕ). eqb (target flows n) c.args.node)) all
+    let flows = flows_of c.args.model.now in
+    let node = c.args.node in
+    let p = λ (n : ℕ). eqb (target flows n) node in
+    let same = c.flows.ensures.value in
+    c.chosen.ensures p
+    (λ i x b within at answers.
+    let told : b ≡ eqb x.now.to node = search rules in
+    told ∙ ap (λ (f : Flow). eqb f.to node) (flow-there flows c.flows.result.now i x.now same within at))
+    ∙ ap (λ (fs : List Flow). chosen p (length fs)) same

@@ -1,17 +1,11 @@
-use Rattle.std.proofs.Common.{◌≡◌, get_or, pos, ap, ◌∙◌, subst, arith, w32, SFits, to_z, of_z, rules}
-use mathlib.Core.Path.{fun_ext}
-use Rattle.std.proofs.lemmas.List.{take_all}
+use Rattle.std.proofs.Common.{◌≡◌, get_or, pos, ap, ◌∙◌, subst, w32, SFits, to_z, of_z, rules}
 use Rattle.std.proofs.lemmas.Int.{to_z-of_z}
 use Rattle.reading.specs.Orders.{order}
 use Rattle.service.specs.Answers.{answer}
-use Rattle.service.specs.OrderFiles.{order_waits}
 use Rattle.service.specs.Piles.{waits_in}
 use Rattle.service.specs.Waits.{put_verdict, Put}
 use Rattle.service.proofs.Filling.{filled_more}
 use Rattle.service.proofs.order_file.pile_of.Goals as goal
-
-pub loop-line-init : goal.loop-line-init
-loop-line-init c = fun_ext c.new-pile.ensures
 
 pub loop-line-preserved : goal.loop-line-preserved
 loop-line-preserved c =
@@ -25,6 +19,3 @@ loop-line-preserved c =
     filled_more os c.requires.in_range c.requires.few i (order 0 (pos 0)) c.loop-line-test.true old new c.put.result c.loop-line.invariant
     (c.put.ensures.reply ∙ ap (λ z. put_verdict 1489 (waits_in old) o.node (answer z)) same)
     (subst (λ z. Put waits_in old o.node (answer z) c.put.result new) same c.put.ensures.after)
-
-pub returns : goal.returns
-returns c = c.loop-line.invariant ∙ ap order_waits (take_all c.loop-line.line-index c.args.lines.now (omega arith))

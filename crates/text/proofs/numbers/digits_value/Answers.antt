@@ -1,7 +1,5 @@
-use Rattle.std.proofs.Common.{ap, ◌∙◌, subst, arith, rules}
-use Rattle.std.specs.Str.Parse.{AllDigits, digits_value}
+use Rattle.std.proofs.Common.{arith, rules}
 use Rattle.std.proofs.lemmas.Int.Digits.{digits_value_more, digits_more}
-use Rattle.std.proofs.lemmas.List.{take_all}
 use Rattle.text.proofs.Writings.{digit-there, short}
 use Rattle.text.proofs.numbers.digits_value.Goals as goal
 
@@ -23,8 +21,3 @@ loop-byte-preserved c =
       digits_more 10 _ _ c.loop-byte-test.true c.loop-byte.invariant.0 d.0,
       omega (arith, digits_value_more 10 c.args.digits.now c.loop-byte.byte-index c.loop-byte-test.true, d.1, c.loop-byte.invariant.1, c.from.ensures),
     )
-
-pub returns : goal.returns
-returns c =
-    let e = take_all c.loop-byte.byte-index c.args.digits.now c.loop-byte-test.false in
-    (subst (AllDigits 10) e c.loop-byte.invariant.0, c.loop-byte.invariant.1 ∙ ap (digits_value 10) e)

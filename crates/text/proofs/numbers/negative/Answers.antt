@@ -4,9 +4,6 @@ use Rattle.text.specs.Numbers.{Writes}
 use Rattle.text.proofs.Writings.{not-both}
 use Rattle.text.proofs.numbers.negative.Goals as goal
 
-pub returns-in_err-n : goal.returns-in_err-n
-returns-in_err-n c = rw c.from_residual.ensures (λ n w. c.in_err-n.ensures (n + 1) w)
-
 pub returns-then-n-eq0 : goal.returns-then-n-eq0
 returns-then-n-eq0 c = λ n w. not-both _ _ n c.if-n-eq0.true c.in_ok-n.ensures w
 

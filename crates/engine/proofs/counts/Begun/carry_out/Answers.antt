@@ -7,9 +7,9 @@ use Rattle.engine.proofs.counts.Begun.carry_out.Goals as goal
 
 pub returns : goal.returns
 returns g c =
-    let m = c.args.movement in
+    let m = c.args.turn.movement in
     let t = c.take_answer-answer.ensures in
-    let l : Line = record { node = c.args.node; taken = m.taken; put = m.put; answer = c.take_answer-answer.result } in
+    let l : Line = record { node = c.args.turn.node; taken = m.taken; put = m.put; answer = c.take_answer-answer.result } in
     record {
       node = refl;
       allowed = record {

@@ -1,17 +1,11 @@
-use Rattle.std.proofs.Common.{◌≡◌, ◌+◌, ◌<◌, [], ◌∷◌, ◌++◌, length, set, refl, ap, ◌∙◌, arith, length-set}
+use Rattle.std.proofs.Common.{◌≡◌, ◌+◌, ◌<◌, [], ◌∷◌, ◌++◌, length, set, ap, ◌∙◌, arith}
 use Rattle.graph.specs.Ring.{ring}
 use Rattle.graph.proofs.Rings.{ring-length, put-behind, put-before}
 use Rattle.graph.proofs.worklist.WorkList.put.Goals as goal
 use Rattle.graph.proofs.worklist.WorkList.put.Goals.{then-self-behind, else-self-behind}
 
-pub returns-then-self : goal.returns-then-self
-returns-then-self g c =
-    let w = c.args.self.now in
-    let e = ring-length w.memory.now w.first w.inside.0 w.waiting w.inside.1 in
-    record { cases = (refl, omega (arith, e), refl {a = w}); places = refl {a = length w.memory.now} }
-
-pub returns : goal.returns
-returns g c =
+pub returns-clause-cases : goal.returns-clause-cases
+returns-clause-cases g c =
     let w = c.args.self.now in
     let m = w.memory.now in
     let x = c.args.entry in
@@ -23,4 +17,4 @@ returns g c =
       | then-self-behind v ↦ ap (λ i. ring (set m i x) w.first (w.waiting + 1)) v.at-is ∙ put-behind m w.first w.inside.0 w.waiting x v.if-self-behind.true
       | else-self-behind v ↦ ap (λ i. ring (set m i x) w.first (w.waiting + 1)) v.at-is ∙ put-before m w.first w.inside.0 w.waiting x free v.if-self-behind.false
     ] in
-    record { cases = (omega (arith, e), put); places = length-set m at x }
+    (omega (arith, e), put)

@@ -1,11 +1,11 @@
-use Rattle.std.proofs.Common.{◌≡◌, ◌<◌, length, sym, refl, ap, ◌∙◌, arith}
+use Rattle.std.proofs.Common.{◌≡◌, ◌<◌, length, sym, ap, ◌∙◌, arith}
 use Rattle.graph.specs.Ring.{ring}
 use Rattle.graph.proofs.Rings.{take-first, wrapped}
 use Rattle.graph.proofs.worklist.WorkList.take.Goals as goal
 use Rattle.graph.proofs.worklist.WorkList.take.Goals.{then-self, else-self}
 
-pub returns : goal.returns
-returns g c =
+pub returns-clause-cases : goal.returns-clause-cases
+returns-clause-cases g c =
     let w = c.args.self.now in
     let m = w.memory.now in
     let d = c.index-self-at.result in
@@ -18,4 +18,4 @@ returns g c =
       | else-self v ↦ let end : w.first ≡ length m = omega (arith, v.if-self.false, w.inside.0) in
           wrapped m w.first w.waiting end ∙ ap (λ i. ring m i w.waiting) (sym v.at-is)
     ] in
-    record { cases = start ∙ take-first m at w.waiting d inside some w.inside.1; places = refl {a = length m} }
+    start ∙ take-first m at w.waiting d inside some w.inside.1

@@ -1,41 +1,18 @@
-use Rattle.std.proofs.Common.{◌+◌, ◌∷◌, get_or, drop, sym, ap, ◌∙◌}
+use Rattle.std.proofs.Common.{◌≡◌, ◌∙◌, sym, ap, eqb, filter, rules, tests}
 use Rattle.std.specs.List.{slice_get}
-use Rattle.std.proofs.lemmas.List.{at_drop_all}
-use Rattle.graph_tests.specs.Targets.{targets}
-use Rattle.graph_tests.proofs.Targets.{leads, leads-not, nth-next}
+use Rattle.std.specs.Option.{option_map}
+use Rattle.std.proofs.lemmas.Iterator.{YieldsList-from_slice}
+use Rattle.std.proofs.lemmas.Iterator.Consumers.{nth_from_yields_List, YieldsList-from_filter}
+use Rattle.std.proofs.lemmas.Option.{slice_get-map}
+use Rattle.graph_tests.proofs.Targets.{targets-map}
 use Rattle.graph_tests.proofs.edges.EdgesGraph.neighbour.Goals as goal
-use Rattle.graph_tests.proofs.edges.EdgesGraph.neighbour.Goals.{then-edge-place+else-before-eq0, else-edge-place}
-
-pub returns-then-before-eq0 : goal.returns-then-before-eq0
-returns-then-before-eq0 c =
-    let es = c.args.self.now.edges.now in
-    let i = c.loop-edge.edge-index in
-    let p = c.args.place in
-    let b = (get_or es i (0, 0)).1 in
-    sym (sym c.loop-edge.invariant
-    ∙ ap (λ xs. slice_get xs c.loop-edge.before) (leads es i p c.loop-edge-test.true c.if-edge-place.true)
-    ∙ ap (λ n. slice_get (b ∷ targets (drop (i + 1) es) p) n) c.if-before-eq0.true)
-
-pub loop-edge-preserved : goal.loop-edge-preserved
-loop-edge-preserved c =
-    let es = c.args.self.now.edges.now in
-    let i = c.loop-edge.edge-index in
-    let p = c.args.place in
-    let b = (get_or es i (0, 0)).1 in
-    elim c.if-edge-place.branch [
-      | then-edge-place+else-before-eq0 w ↦
-          ap (λ n. slice_get (targets (drop (i + 1) es) p) n) w.before-is
-          ∙ sym (nth-next b (targets (drop (i + 1) es) p) c.loop-edge.before w.if-before-eq0.false)
-          ∙ ap (λ xs. slice_get xs c.loop-edge.before) (sym (leads es i p c.loop-edge-test.true w.if-edge-place.true))
-          ∙ c.loop-edge.invariant
-      | else-edge-place w ↦
-          ap (λ n. slice_get (targets (drop (i + 1) es) p) n) w.before-is
-          ∙ ap (λ xs. slice_get xs c.loop-edge.before) (sym (leads-not es i p c.loop-edge-test.true w.if-edge-place.false))
-          ∙ c.loop-edge.invariant
-    ]
 
 pub returns : goal.returns
 returns c =
     let es = c.args.self.now.edges.now in
-    let e = at_drop_all (λ xs. slice_get (targets xs c.args.place) c.loop-edge.before) es c.loop-edge.edge-index c.loop-edge-test.false in
-    sym (sym c.loop-edge.invariant ∙ e)
+    let p = c.args.place in
+    let left = filter (λ e. eqb e.0 p) es in
+    let e = nth_from_yields_List c.nth.result c.nth.new.self c.args.index c.nth.ensures.ran
+    (YieldsList-from_filter _ (λ e. eqb e.0 p) (YieldsList-from_slice es cc) c.filter.ensures.closure (λ x b q k. search (rules, tests))) in
+    let m : c.map.result ≡ option_map (λ e. e.1) (slice_get left c.args.index) = search rules in
+    m ∙ sym (slice_get-map (λ e. e.1) left c.args.index) ∙ ap (λ ps. slice_get ps c.args.index) (sym (targets-map es p))

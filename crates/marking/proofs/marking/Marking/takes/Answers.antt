@@ -1,7 +1,3 @@
-use Rattle.std.proofs.Common.{ap, ◌∙◌}
-use Rattle.model.specs.declared.model.Model.{Model}
-use Rattle.model.specs.Models as models
-use Rattle.model.specs.Rules.{kind_at}
 use Rattle.paths.specs.Routings.{model_of}
 use Rattle.paths.proofs.Nodes.{flows-few}
 use Rattle.marking.specs.Markings.{routing_of, tokens_of, nodes_of, flows_of}
@@ -13,8 +9,7 @@ returns-in-Some c =
     let m = c.args.self.now in
     let n = c.args.node in
     let both = c.intersection-coming_in in
-    let kind = c.kind.ensures ∙ ap (λ (x : Model). kind_at (models.nodes_of x) n) c.model.ensures in
-    takes-lowest (nodes_of m) (flows_of m) (flows-few (model_of (routing_of m))) (tokens_of m) n c.kind.result kind c.inbound.result both.result c.inbound.ensures both.ensures
+    takes-lowest (nodes_of m) (flows_of m) (flows-few (model_of (routing_of m))) (tokens_of m) n c.kind.result c.kind.ensures c.inbound.result both.result c.inbound.ensures both.ensures
     c.in-Exclusive.is c.in-Some.lowest c.single.result c.in-Some.ensures c.single.ensures
 
 pub returns-in-None : goal.returns-in-None
@@ -22,8 +17,7 @@ returns-in-None c =
     let m = c.args.self.now in
     let n = c.args.node in
     let both = c.intersection-coming_in in
-    let kind = c.kind.ensures ∙ ap (λ (x : Model). kind_at (models.nodes_of x) n) c.model.ensures in
-    takes_none (nodes_of m) (flows_of m) (flows-few (model_of (routing_of m))) (tokens_of m) n c.kind.result kind c.inbound.result both.result c.inbound.ensures both.ensures
+    takes_none (nodes_of m) (flows_of m) (flows-few (model_of (routing_of m))) (tokens_of m) n c.kind.result c.kind.ensures c.inbound.result both.result c.inbound.ensures both.ensures
     c.in-Exclusive.is c.in-None.ensures
 
 pub returns-in-Start : goal.returns-in-Start
@@ -31,6 +25,5 @@ returns-in-Start c =
     let m = c.args.self.now in
     let n = c.args.node in
     let both = c.intersection-coming_in in
-    let kind = c.kind.ensures ∙ ap (λ (x : Model). kind_at (models.nodes_of x) n) c.model.ensures in
-    takes_all (nodes_of m) (flows_of m) (flows-few (model_of (routing_of m))) (tokens_of m) n c.kind.result kind c.inbound.result both.result c.inbound.ensures both.ensures
+    takes_all (nodes_of m) (flows_of m) (flows-few (model_of (routing_of m))) (tokens_of m) n c.kind.result c.kind.ensures c.inbound.result both.result c.inbound.ensures both.ensures
     c.in-Start.is

@@ -3,4 +3,4 @@ use Rattle.model.proofs.Reaching.{successors-count}
 use Rattle.model.proofs.reached.NodesGraph.degree.Goals as goal
 
 pub returns : goal.returns
-returns c = c.how_many.ensures ∙ successors-count c.args.self.now.flows.now c.args.node
+returns c = c.outgoing.ensures ∙ successors-count c.args.self.now.flows.now c.args.node

@@ -13,5 +13,5 @@ returns c =
     let r = c.args.self.now in
     let n = c.args.node in
     λ e.
-    subst (λ (s : FlowSet). Decides (has s e) (Inbound (flows_of r) n e)) (sym (c.of_node.ensures ∙ (tables-right r).enter n))
+    subst (λ (s : FlowSet). Decides (has s e) (Inbound (flows_of r) n e)) (sym (c.row.ensures ∙ (tables-right r).enter n))
     (entering-decides (flows_of r) (flows-few (model_of r)) n e)

@@ -1,20 +1,16 @@
-use Rattle.std.proofs.Common.{List, ap, ◌∙◌, subst}
-use Rattle.process.specs.declared.flow.Flow.{Flow}
-use Rattle.paths.specs.Links.{entering, leaving}
-use Rattle.paths.specs.Tables.{Sources}
-use Rattle.paths.proofs.Nodes.{entering-everywhere, leaving-everywhere}
+use Rattle.std.proofs.Common.{◌≤◌, arith, rules}
+use Rattle.paths.proofs.Nodes.{flows-few, entering-everywhere, leaving-everywhere}
 use Rattle.paths.proofs.routing.Routing.of.Goals as goal
 
 pub invariant_of-result : goal.invariant_of-result
 invariant_of-result c =
     let m = c.args.model in
-    let same = c.flows-flows.ensures.value in
-    let inbound = c.inbound_table-inbound in
-    let outgoing = c.outgoing_table-outgoing in
+    let inbound = c.table-inbound in
+    let outgoing = c.table-outgoing in
     record {
       right = ∣ record {
-        reach = subst (λ (fs : List Flow). Sources fs c.sources-sources.result) same c.sources-sources.ensures;
-        enter = entering-everywhere m inbound.result inbound.ensures.long (λ n low high. inbound.ensures.value n low high ∙ ap (λ (fs : List Flow). entering fs n) same);
-        leave = leaving-everywhere m outgoing.result outgoing.ensures.long (λ n low high. outgoing.ensures.value n low high ∙ ap (λ (fs : List Flow). leaving fs n) same);
+        reach = λ e f i. let high : e ≤ 64 = omega (arith, i.1, flows-few m) in let told = c.table-sources.ensures.value e i.0 high in search rules;
+        enter = entering-everywhere m inbound.result inbound.ensures.long (λ n low high. let told = inbound.ensures.value n low high in search rules);
+        leave = leaving-everywhere m outgoing.result outgoing.ensures.long (λ n low high. let told = outgoing.ensures.value n low high in search rules);
       } ∣₁;
     }

@@ -13,5 +13,5 @@ returns c =
     let r = c.args.self.now in
     let n = c.args.node in
     λ f.
-    subst (λ (s : FlowSet). Decides (has s f) (Outgoing (flows_of r) n f)) (sym (c.of_node.ensures ∙ (tables-right r).leave n))
+    subst (λ (s : FlowSet). Decides (has s f) (Outgoing (flows_of r) n f)) (sym (c.row.ensures ∙ (tables-right r).leave n))
     (leaving-decides (flows_of r) (flows-few (model_of r)) n f)

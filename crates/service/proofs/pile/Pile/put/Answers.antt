@@ -1,4 +1,4 @@
-use Rattle.std.proofs.Common.{◌<◌, length, sym, refl, ap, ◌∙◌, arith}
+use Rattle.std.proofs.Common.{◌<◌, length, sym, ap, ◌∙◌, arith}
 use Rattle.std.proofs.lemmas.Bool.{and_from}
 use Rattle.process.specs.Rows.{items}
 use Rattle.process.proofs.Formed.{pushed}
@@ -7,14 +7,11 @@ use Rattle.service.proofs.Entries.{sound-push, answers_push, waiting-entries}
 use Rattle.service.proofs.Verdicts.{verdict-full, verdict-room}
 use Rattle.service.proofs.pile.Pile.put.Goals as goal
 
-pub returns-then-len : goal.returns-then-len
-returns-then-len g c =
+pub returns-then-len-clause-reply : goal.returns-then-len-clause-reply
+returns-then-len-clause-reply g c =
     let p = c.args.self.now in
     let total = waiting-entries (items p.entries) p.sound in
-    record {
-      reply = verdict-full g.row.N (answers_for (items p.entries)) c.args.node c.args.answer c.if-not-is_node_number.ensures c.if-not-in_range.ensures (omega (arith, total, c.len.ensures, c.if-len.true));
-      after = refl {a = p};
-    }
+    verdict-full g.row.N (answers_for (items p.entries)) c.args.node c.args.answer c.if-not-is_node_number.ensures c.if-not-in_range.ensures (omega (arith, total, c.len.ensures, c.if-len.true))
 
 pub invariant_of-self : goal.invariant_of-self
 invariant_of-self g c =

@@ -1,4 +1,4 @@
-use Rattle.std.proofs.Common.{◌≡◌, ℕ, Ok, Err, Result, ap, ◌∙◌, subst, arith, length-take, w32, to_z, of_z}
+use Rattle.std.proofs.Common.{◌≡◌, ℕ, Ok, Err, Result, ap, subst, arith, length-take, w32, to_z, of_z}
 use Rattle.std.proofs.lemmas.Int.{to_z-of_z}
 use Rattle.fault.specs.declared.service.ServiceFault.{ServiceFault}
 use Rattle.process.specs.Rows.{items}
@@ -6,7 +6,7 @@ use Rattle.service.specs.declared.answer.Answer.{Answer}
 use Rattle.service.specs.declared.pile.Pile.{Pile}
 use Rattle.service.specs.Answers.{answer}
 use Rattle.service.specs.Piles.{waits_in, waits_on}
-use Rattle.service.specs.Waits.{put_verdict, Put}
+use Rattle.service.specs.Waits.{Put}
 use Rattle.service.proofs.Entries.{waiting-entries}
 use Rattle.service.proofs.tray.Tray.put.Goals as goal
 
@@ -15,13 +15,14 @@ put_on : (p p' : Pile 64) (n : ℕ) (a : Answer) (r : Result (Unit {0}) ServiceF
 put_on p p' n a (Ok u) h = h
 put_on p p' n a (Err fault) h = ap (λ x. record { pile = x }) h
 
-pub returns : goal.returns
-returns c =
+pub returns-clause-after : goal.returns-clause-after
+returns-clause-after c =
     let old = c.args.self.now.pile in
     let new = c.put.new.self in
     let same : to_z w32 (of_z w32 c.args.value) ≡ c.args.value = to_z-of_z w32 c.args.value c.ranges.value in
-    record {
-      reply = c.put.ensures.reply ∙ ap (λ z. put_verdict 64 (waits_in old) c.args.node (answer z)) same;
-      after = put_on old new c.args.node (answer c.args.value) c.put.result (subst (λ z. Put waits_in old c.args.node (answer z) c.put.result new) same c.put.ensures.after);
-      few = omega (arith, waiting-entries (items new.entries) new.sound, length-take new.entries.count new.entries.memory, new.entries.fits);
-    }
+    put_on old new c.args.node (answer c.args.value) c.put.result (subst (λ z. Put waits_in old c.args.node (answer z) c.put.result new) same c.put.ensures.after)
+
+pub returns-clause-few : goal.returns-clause-few
+returns-clause-few c =
+    let new = c.put.new.self in
+    omega (arith, waiting-entries (items new.entries) new.sound, length-take new.entries.count new.entries.memory, new.entries.fits)
