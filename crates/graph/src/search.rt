@@ -38,6 +38,7 @@ impl<'a, 'w, P: Copy + Same> Search<'a, 'w, P> {
     fn add(&mut self, place: P) -> Result<(), GraphFault>
         ensures cases { MatchResult result (λ _. Grown (place ∷ []) self.old self.new)
             (λ e. (e ≡ GraphFault.TooMany) × Overfull (place ∷ []) self.old) }
+        ensures room { capacity self.new.waiting.now ≡ capacity self.old.waiting.now }
         ensures reference { self.new.found.ghost_name ≡ self.old.found.ghost_name }
     {
         if self.has(place) {
@@ -55,6 +56,7 @@ impl<'a, 'w, P: Copy + Same> Search<'a, 'w, P> {
     fn add_all(&mut self, places: &[P]) -> Result<(), GraphFault>
         ensures cases { MatchResult result (λ _. Grown places.now self.old self.new)
             (λ e. (e ≡ GraphFault.TooMany) × Overfull places.now self.old) }
+        ensures room { capacity self.new.waiting.now ≡ capacity self.old.waiting.now }
         ensures reference { self.new.found.ghost_name ≡ self.old.found.ghost_name }
     {
         for place in places {
@@ -68,6 +70,7 @@ impl<'a, 'w, P: Copy + Same> Search<'a, 'w, P> {
         ensures cases { MatchOption result (entries self.old.waiting.now ≡ [])
             (λ x. entries self.old.waiting.now ≡ x ∷ entries self.new.waiting.now) }
         ensures kept { (self.new.found.now ≡ self.old.found.now) × (self.new.count ≡ self.old.count) × (self.new.limit ≡ self.old.limit) }
+        ensures room { capacity self.new.waiting.now ≡ capacity self.old.waiting.now }
         ensures reference { self.new.found.ghost_name ≡ self.old.found.ghost_name }
     {
         self.waiting.take().ok()
@@ -77,6 +80,7 @@ impl<'a, 'w, P: Copy + Same> Search<'a, 'w, P> {
     fn add_neighbours<G: Graph<Place = P>>(&mut self, graph: &G, place: P) -> Result<(), GraphFault>
         ensures cases { MatchResult result (λ _. Grown (G.next graph.now place) self.old self.new)
             (λ e. (e ≡ GraphFault.TooMany) × Overfull (G.next graph.now place) self.old) }
+        ensures room { capacity self.new.waiting.now ≡ capacity self.old.waiting.now }
         ensures reference { self.new.found.ghost_name ≡ self.old.found.ghost_name }
     {
         // By an index, as a graph hands its places out: an iterator would be an associated type with a lifetime parameter.

@@ -1,5 +1,5 @@
 //! How far a flow is from another along paths that avoid a gateway: sets that grow by one flow of the path at a time.
-ghost use Rattle.std.specs.Prelude.{◌≡◌, ℕ, ◌≤◌, true, length, take, drop};
+ghost use Rattle.std.specs.Prelude.{◌≡◌, ℕ, ◌+◌, ◌≤◌, true, List, length, take, drop};
 ghost use Rattle.process.specs.Rows.{items};
 ghost use Rattle.process.specs.Sets.{has};
 ghost use Rattle.model.specs.Models.{flows_of};
@@ -59,6 +59,7 @@ impl<'a> Avoiding<'a> {
     pub(crate) fn write_path(&self, from: u8, end: u8, list: &mut [u8; MOST_FLOWS]) -> usize
         requires { Reaches (flows_of self.now.model.now) self.now.gateway from end }
         ensures few { result ≤ 64 }
+        ensures levels { (sets : List FlowSet) × LevelsBelow (flows_of self.now.model.now) self.now.gateway from end sets × (result ≡ length sets + 1) }
         ensures route { Route (flows_of self.now.model.now) self.now.gateway from end (take result list.new) }
         ensures rest { drop result list.new ≡ drop result list.old }
     {

@@ -1,12 +1,12 @@
 -- The flows of a set in order.
-use Rattle.std.proofs.Common.{◌≡◌, ℕ, zero, suc, ◌+◌, ◌-◌, ◌/◌, ◌%◌, ◌^◌, ◌<◌, ◌≤◌, Bool, true, false, cond, eqb, [], ◌∷◌, length, Some, None, Option, sym, refl, ap, ◌∙◌, subst, ⊎_elim, shr-shr, shr_lt, pow_mono, add-one, arith, MatchOption}
+use Rattle.std.proofs.Common.{◌≡◌, ℕ, zero, suc, ◌+◌, ◌-◌, ◌/◌, ◌%◌, ◌^◌, ◌<◌, ◌≤◌, Bool, true, false, cond, not, ◌&&◌, eqb, [], ◌∷◌, length, Some, None, Option, sym, refl, ap, ◌∙◌, subst, ⊎_elim, shr-shr, shr_lt, pow_mono, add-one, arith, MatchOption}
 use native.Mathlib.Nat.{div-eq_of_lt}
 use Rattle.std.specs.Int.{bit_at}
 use Rattle.std.specs.List.{slice_get}
-use Rattle.std.proofs.lemmas.Bool.{cases_Bool, cases_eq, cases_order, cases_lt, both_ways}
+use Rattle.std.proofs.lemmas.Bool.{cases_Bool, cases_eq, cases_order, cases_lt, both_ways, and_from, le-leb, eq-eqb, ne_eqb}
 use Rattle.std.proofs.lemmas.Nat.{pow_pos}
 use Rattle.process.specs.declared.sets.FlowSet.{FlowSet}
-use Rattle.process.specs.Sets.{has, is_none, among, above, tally, Next, SetLaws}
+use Rattle.process.specs.Sets.{in_range, has, just, without, is_none, among, above, tally, Next, SetLaws}
 use Rattle.process.proofs.Membership.{has-no_flows, has-just, has-joined, has-shared, has-without, none-in-zero, some_in, same-sets, tally-same, tally-front}
 
 -- ---- one number on
@@ -82,6 +82,15 @@ module _ (s : FlowSet) where
   -- the lowest flow above a number stands first among those above it
   pub above-some : (n f : ℕ) → Some f ≡ slice_get (above s n) 0 → above s n ≡ f ∷ above s f
   above-some n f e = let h = next-some n f e in above-next (f - (n + 1)) n f (omega (arith, h.higher)) h
+
+  -- the numbers after n that the set does not have are passed over
+  above-over : (d n : ℕ) → n + d ≤ 64 → ((m : ℕ) → n < m → m ≤ n + d → has s m ≡ false) → above s n ≡ above s (n + d)
+  above-over zero n h none = let e : n ≡ n + 0 = omega arith in ap (above s) e
+  above-over (suc d) n h none =
+      let e : n + 1 + d ≡ n + suc d = omega arith in
+      above-not n (omega arith) (none (n + 1) (omega arith) (omega arith))
+      ∙ above-over d (n + 1) (omega arith) (λ m low high. none m (omega arith) (omega arith))
+      ∙ ap (above s) e
 
   -- ---- the word without its lowest bits
 
@@ -160,6 +169,60 @@ module _ (s : FlowSet) where
   pub above-length : length (above s 0) ≡ tally (has s) 64
   unfolding above
   above-length = among-length 64 0 ∙ tally-same _ _ 64 (λ j h l. let e : j + 0 ≡ j = omega arith in ap (has s) e)
+
+-- ---- a set without its lowest flow
+
+module _ (s t : FlowSet) where
+  among-same : (k n : ℕ) → ((m : ℕ) → n ≤ m → m < n + k → has s m ≡ has t m) → among s n k ≡ among t n k
+  unfolding among
+  among-same zero n same = refl
+  among-same (suc k) n same =
+      ap (λ (b : Bool). cond b (n ∷ among s (suc n) k) (among s (suc n) k)) (same n (omega arith) (omega arith))
+      ∙ ap (λ ms. cond (has t n) (n ∷ ms) ms) (among-same k (suc n) (λ m low high. same m (omega arith) (omega arith)))
+
+  above-same : (n : ℕ) → ((m : ℕ) → n < m → m ≤ 64 → has s m ≡ has t m) → above s n ≡ above t n
+  unfolding above
+  above-same n same = among-same (64 - n) (suc n) (λ m low high. same m (omega arith) (omega arith))
+
+-- the flow f itself, a flow that the set does not have, and another flow
+gone-itself : (a r q : Bool) → r ≡ true → q ≡ true → (a && not (r && q)) ≡ false
+gone-itself true r q e k = ap (λ x. not (x && q)) e ∙ ap not k
+gone-itself false r q e k = refl
+
+gone-already : (a b : Bool) → a ≡ false → (a && b) ≡ false
+gone-already a b e = ap (λ x. x && b) e
+
+kept-other : (a r q : Bool) → q ≡ false → (a && not (r && q)) ≡ a
+kept-other true true q e = ap not e
+kept-other true false q e = refl
+kept-other false r q e = refl
+
+-- once the lowest is taken out, those above it are left
+pub above-taken : (s : FlowSet) (f : ℕ) → Some f ≡ slice_get (above s 0) 0 → above (without s (just f)) 0 ≡ above s f
+above-taken s f e = above-over t f 0 (omega (arith, low.range)) gone ∙ ap (above t) none_more ∙ above-same t s f kept
+  where
+    t : FlowSet
+    t = without s (just f)
+
+    none_more : 0 + f ≡ f
+    none_more = omega arith
+
+    low : Next s 0 f
+    low = next-some s 0 f e
+
+    is : (m : ℕ) → has t m ≡ (has s m && not (in_range f && eqb m f))
+    is m = has-without s (just f) m ∙ ap (λ b. has s m && not b) (has-just f m)
+
+    gone : (m : ℕ) → 0 < m → m ≤ 0 + f → has t m ≡ false
+    gone m higher most =
+        is m
+        ∙ ⊎_elim
+        (λ same. gone-itself (has s m) (in_range f) (eqb m f) (and_from _ _ (le-leb 1 f (omega (arith, low.higher))) (le-leb f 64 low.range)) (eq-eqb m f same))
+        (λ other. gone-already (has s m) _ (low.first m higher (omega arith)))
+        (cases_eq m f)
+
+    kept : (m : ℕ) → f < m → m ≤ 64 → has t m ≡ has s m
+    kept m higher most = is m ∙ kept-other (has s m) (in_range f) (eqb m f) (ne_eqb m f (λ same. omega arith))
 
 -- ---- the laws together
 

@@ -4,4 +4,4 @@ use Rattle.process.specs.declared.sets.Flows.{Flows}
 use Rattle.process.specs.Sets.{above}
 
 abbrev pub left : Flows → List ℕ
-left f = above f.set f.last
+left f = above f.rest 0

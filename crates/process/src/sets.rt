@@ -145,7 +145,7 @@ impl FlowSet {
     pub fn iter(self) -> Flows
         ensures { left result ≡ above self 0 }
     {
-        Flows { set: self, last: 0 }
+        Flows { rest: self }
     }
 
     /// The flow of the set that has this many lower ones.
@@ -156,11 +156,11 @@ impl FlowSet {
     }
 }
 
-/// The flows of a set above the last one that came, lowest first.
+/// The flows of a set that are still to come, lowest first.
+// What has come is taken out of the set: to look above the last one that came took up to twice the time in a full set.
 #[derive(Clone, Copy)]
 pub struct Flows {
-    set: FlowSet,
-    last: u8,
+    rest: FlowSet,
 }
 
 impl Iterator for Flows {
@@ -171,8 +171,8 @@ impl Iterator for Flows {
     ghost remaining = { item_count left };
 
     fn next(&mut self) -> Option<u8> {
-        let flow = self.set.next_after(self.last)?;
-        self.last = flow;
+        let flow = self.rest.lowest()?;
+        self.rest = self.rest.remove(flow);
         Some(flow)
     }
 }

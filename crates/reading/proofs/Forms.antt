@@ -10,10 +10,11 @@ use Rattle.process.specs.Processes.{is_number}
 use Rattle.text.specs.declared.words.Keyword.{Keyword}
 use Rattle.text.specs.declared.words.Keyword.TheVariants as keywords
 use Rattle.text.specs.Numbers.{numeral, Names}
-use Rattle.text.specs.Words.{Token, keyword, number, figure, operator}
+use Rattle.text.specs.Texts.{text_check}
+use Rattle.text.specs.Words.{Token, keyword, number, figure, operator, words_of}
 use Rattle.text.proofs.Numerals.{numeral-names}
 use Rattle.reading.specs.Fields.{and_then, Words, Parsed, field, as_counted, as_figure, as_value, as_operator, counted, valued, counted_field, number_field, figure_field}
-use Rattle.reading.specs.Lines.{ended, process_entry, opens_process, as_process, first_line}
+use Rattle.reading.specs.Lines.{ended, process_entry, opens_process, as_process, first_line, later_lines, all_lines, in_line, lines_of, process_read}
 
 module _ {X : Type 0} {E : Type 0} where
   pub err-not-ok : (e : E) (x : X) → ◌≡◌ {A = Result X E} (Err e) (Ok x) → ⊥
@@ -172,3 +173,9 @@ first-ok line (Some t ∷ ts) n e =
 
 pub first-number : (line : ℕ) (ts : Words) (n : ℕ) → first_line line ts ≡ Ok n → is_number n ≡ true
 first-number line ts n e = let c = (first-ok line ts n e).counts in and_from _ _ (le-leb 1 n c.low) (le-leb n 65535 c.most)
+
+-- a first line at fault
+pub first_bad : (text first : List ℕ) (more : List (List ℕ)) (f : LineFault) → text_check text ≡ Ok tt → lines_of text ≡ first ∷ more → first_line 1 (words_of first) ≡ Err f → process_read text ≡ Err f
+first_bad text first more f a b c =
+    (λ i. and_then (in_line (a i)) (λ u. all_lines (b i)))
+    ∙ ap (λ r. and_then r (λ n. and_then (later_lines 2 ([], []) more) (λ s. Ok (record { number = n; nodes = s.0; flows = s.1 })))) c

@@ -53,6 +53,7 @@ returns c =
     let before : length levels < length levels + 1 = omega arith in
     record {
       few = omega (arith, below.few);
+      levels = (levels, below, refl);
       route =
           traced-whole (flows_of m) (flows-few m) g c.args.from c.args.end c.requires levels below c.loop-place.list c.loop-place.place c.loop-place.flow
           c.loop-place-test.false c.loop-place.invariant.trail;
